@@ -120,24 +120,24 @@ uint32_t s2ix_rewind(s2ix_handle *handle, const uint8_t *dump, size_t dump_len, 
                      uint32_t copies, uint32_t changes, size_t *place, size_t *entry);
 
 /* Opens `copy` on a new store with the same pairs and limits, and with nothing to undo or redo. If the call is not refused, it
-   frees the store that `copy` had. The two stores share memory, and may be used at once on different threads. O(n). S2IX_CLOSED,
-   S2IX_OUT_OF_MEMORY. */
+   frees the store that `copy` had. The two stores share memory, and may be used at once on different threads. O(p) for the p parts of
+   some hundred pairs that the store is kept in, besides the freeing. S2IX_CLOSED, S2IX_OUT_OF_MEMORY. */
 uint32_t s2ix_copy(s2ix_handle *handle, s2ix_handle *copy);
 
 /* Closes a handle and frees all that its store had; a closed one stays closed. O(n). */
 void s2ix_close(s2ix_handle *handle);
 
 /* Edits: each is one change, which can be undone. *number is how many pairs changed their counts. Besides the statuses named, each may
-   return S2IX_CLOSED, S2IX_JOURNAL_FULL, S2IX_NO_CHANGE, S2IX_TOO_MANY_COPIES, S2IX_TOO_MANY_PAIRS or S2IX_OUT_OF_MEMORY. The time grows
-   with the pairs held on the faces that change. */
+   return S2IX_CLOSED, S2IX_JOURNAL_FULL, S2IX_NO_CHANGE, S2IX_TOO_MANY_COPIES, S2IX_TOO_MANY_PAIRS or S2IX_OUT_OF_MEMORY. A
+   store is kept in parts of some hundred pairs: the time grows with the number of parts, and with the pairs of those that change. */
 
 /* Adds copies to the count of a cell under a label. S2IX_NO_CELL, S2IX_NO_LABEL. */
 uint32_t s2ix_add(s2ix_handle *handle, uint64_t cell, uint32_t label, uint32_t copies, size_t *number);
 
 /* Adds the count of each row to that of its cell under its label, as one change. Rows come in any order, repeated or not; one of count 0
    adds nothing. Each row keeps its cell: unlike s2ix_add_union, the call normalises nothing. All are added, or none. If a row's cell or label
-   is wrong, *number is the place of the first such row, counted from 0. O(m log m + m log n) for m rows, besides the time for the pairs
-   held on their faces. S2IX_NO_CELL, S2IX_NO_LABEL. */
+   is wrong, *number is the place of the first such row, counted from 0. O(m log m) for m rows, besides the time of an edit.
+   S2IX_NO_CELL, S2IX_NO_LABEL. */
 uint32_t s2ix_add_all(s2ix_handle *handle, const s2ix_row *rows, size_t len, size_t *number);
 
 /* Takes copies from the count of a cell under a label. S2IX_NO_CELL, S2IX_NO_LABEL, S2IX_NOT_HELD. */
@@ -164,8 +164,8 @@ uint32_t s2ix_normalise_label(s2ix_handle *handle, uint32_t label, size_t *numbe
    S2IX_NO_SUCH_CHANGE, S2IX_BELOW_ZERO. */
 uint32_t s2ix_revert(s2ix_handle *handle, uint32_t change, size_t *number);
 
-/* Takes the last change back; *number is how many pairs it had. The time grows with the pairs held on the faces of these. S2IX_CLOSED,
-   S2IX_NOTHING_TO_UNDO, S2IX_OUT_OF_MEMORY. */
+/* Takes the last change back; *number is how many pairs it had. It takes the time of an edit. S2IX_CLOSED, S2IX_NOTHING_TO_UNDO,
+   S2IX_OUT_OF_MEMORY. */
 uint32_t s2ix_undo(s2ix_handle *handle, size_t *number);
 
 /* Redoes the change that was undone last, in the time of s2ix_undo. S2IX_CLOSED, S2IX_NOTHING_TO_REDO, S2IX_OUT_OF_MEMORY. */
@@ -206,7 +206,7 @@ uint32_t s2ix_of_label(s2ix_handle *handle, uint32_t label, s2ix_row *rows, size
 
 /* A page of all pairs, in rising order of cell, then label: those from the place `from` on, counted from 0, as many as there is room for.
    It never returns S2IX_NO_ROOM. *number is how many pairs are put: 0 if there is none at the place. An edit moves the places of the pairs
-   after those that it changes. O(k) for k pairs put. S2IX_CLOSED. */
+   after those that it changes. O(k log n) for k pairs put. S2IX_CLOSED. */
 uint32_t s2ix_pairs(s2ix_handle *handle, size_t from, s2ix_row *rows, size_t room, size_t *number);
 
 /* How many copies of a cell are held under a label: 0 if the pair is not held. O(log n). S2IX_CLOSED, S2IX_NO_CELL, S2IX_NO_LABEL. */
@@ -238,19 +238,19 @@ uint32_t s2ix_range_count(s2ix_handle *handle, size_t *number);
 uint32_t s2ix_find(s2ix_handle *handle, uint64_t leaf, size_t *place, uint64_t *start, uint64_t *limit);
 
 /* The range at a place, counted from 0: the number of its first leaf, the first leaf number after it, and whether no pair lies over it. If
-   the call is refused, both numbers are 0 and *is_empty is true. An edit may move the places of ranges. O(1). S2IX_CLOSED, S2IX_NO_RANGE.
-   */
+   the call is refused, both numbers are 0 and *is_empty is true. An edit may move the places of ranges. O(log n). S2IX_CLOSED,
+   S2IX_NO_RANGE. */
 uint32_t s2ix_range(s2ix_handle *handle, size_t place, uint64_t *start, uint64_t *limit, bool *is_empty);
 
 /* Of the pairs over the range at a place, those whose cells begin at the leaf number `from` or later, the innermost cell first, the labels
    of one cell rising. If `from` is 0, these are all of them. If `from` is the *limit of an earlier range, these are the pairs that do not
    also lie over the earlier range. So a caller that goes up the ranges, each time with the *limit of the range before, gets each pair once.
-   It does not allocate. O(k) for k pairs put. S2IX_CLOSED, S2IX_NO_RANGE, S2IX_NO_ROOM. */
+   It does not allocate. O(log n + k) for k pairs put. S2IX_CLOSED, S2IX_NO_RANGE, S2IX_NO_ROOM. */
 uint32_t s2ix_contents(s2ix_handle *handle, size_t place, uint64_t from, s2ix_row *rows, size_t room, size_t *number);
 
 /* The place of a range that has a pair over it: s2ix_next_full looks for the first from the place `from` on, s2ix_previous_full for the
    last before the place `before`. If there is none, the status is S2IX_NO_RANGE and *place is 0. Of two ranges side by side, one at least
-   has a pair over it. O(1). S2IX_CLOSED, S2IX_NO_RANGE. */
+   has a pair over it. O(log n). S2IX_CLOSED, S2IX_NO_RANGE. */
 uint32_t s2ix_next_full(s2ix_handle *handle, size_t from, size_t *place);
 uint32_t s2ix_previous_full(s2ix_handle *handle, size_t before, size_t *place);
 

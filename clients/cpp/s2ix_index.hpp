@@ -141,7 +141,7 @@ class Index {
   ~Index() = default;
 
   // An index that starts from what this one holds, with nothing to undo or redo. The two share memory, and may be used side by side on
-  // different threads. O(n). S2IX_CLOSED.
+  // different threads. O(p) for the p parts of some hundred pairs that the store is kept in. S2IX_CLOSED.
   [[nodiscard]] Index copy() const {
     Index index{Closed()};
     detail::check(handle_.with([&](::s2ix_handle* handle) { return s2ix_copy(handle, index.handle()); }));
@@ -161,8 +161,8 @@ class Index {
   [[nodiscard]] ::s2ix_handle* handle() noexcept { return handle_.unlocked(); }
 
   // Edits: each is one change, which can be undone, and returns how many pairs changed their counts. Besides the statuses named, each may
-  // throw with S2IX_CLOSED, S2IX_JOURNAL_FULL, S2IX_NO_CHANGE, S2IX_TOO_MANY_COPIES or S2IX_TOO_MANY_PAIRS. The time grows with the pairs
-  // held on the faces that change.
+  // throw with S2IX_CLOSED, S2IX_JOURNAL_FULL, S2IX_NO_CHANGE, S2IX_TOO_MANY_COPIES or S2IX_TOO_MANY_PAIRS. A store is kept in
+  // parts of some hundred pairs: the time grows with the number of parts, and with the pairs of those that change.
 
   // Adds copies to the count of a cell under a label. S2IX_NO_CELL, S2IX_NO_LABEL.
   std::size_t add(Cell cell, std::uint32_t label, std::uint32_t copies = 1) {
@@ -171,8 +171,8 @@ class Index {
   }
 
   // Adds the count of each row to that of its cell under its label, as one change: rows in any order, repeated or not. Each row keeps its
-  // cell: unlike add_union, the call normalises nothing. All are added, or none. O(m log m + m log n) for m rows, besides the time for the
-  // pairs held on their faces. S2IX_NO_CELL, S2IX_NO_LABEL, with the first row that is wrong.
+  // cell: unlike add_union, the call normalises nothing. All are added, or none. O(m log m) for m rows, besides the time of an
+  // edit. S2IX_NO_CELL, S2IX_NO_LABEL, with the first row that is wrong.
   std::size_t add_all(const Row* rows, std::size_t size) {
     static constexpr Row none{};
     std::size_t place = 0;
@@ -323,7 +323,7 @@ class Index {
     return rows;
   }
 
-  // At most `most` pairs from a place on, counted from 0, in rising order of cell, then label. O(k) for k pairs. S2IX_CLOSED.
+  // At most `most` pairs from a place on, counted from 0, in rising order of cell, then label. O(k log n) for k pairs. S2IX_CLOSED.
   [[nodiscard]] std::vector<Row> pairs(std::size_t from, std::size_t most) const {
     return page(from, most, [&](::s2ix_handle* handle, Row* to, std::size_t room, std::size_t* number) {
       return s2ix_pairs(handle, from, to, room, number);
@@ -368,7 +368,7 @@ class Index {
         [&](std::uint32_t status) { return detail::wrong_leaf(status, leaf.number()); });
   }
 
-  // The range at a place, counted from 0. An edit may move the places. O(1). S2IX_CLOSED, S2IX_NO_RANGE.
+  // The range at a place, counted from 0. An edit may move the places. O(log n). S2IX_CLOSED, S2IX_NO_RANGE.
   [[nodiscard]] Range range(std::size_t place) const {
     return answer<Range>([&](::s2ix_handle* handle, Range* to) {
       bool is_empty = false;
@@ -377,7 +377,7 @@ class Index {
     });
   }
 
-  // Whether no pair lies over the range at a place. O(1). S2IX_CLOSED, S2IX_NO_RANGE.
+  // Whether no pair lies over the range at a place. O(log n). S2IX_CLOSED, S2IX_NO_RANGE.
   [[nodiscard]] bool is_empty(std::size_t place) const {
     return answer<bool>([&](::s2ix_handle* handle, bool* is_empty) {
       Range range{};
@@ -387,7 +387,7 @@ class Index {
 
   // Of the pairs over the range at a place, those whose cells begin at the leaf number `from` or later, the innermost cell first, the labels
   // of one cell rising. If `from` is 0, these are all of them. If `from` is the limit of an earlier range, these are the pairs that don't
-  // also lie over the earlier range. O(k) for k pairs. S2IX_CLOSED, S2IX_NO_RANGE.
+  // also lie over the earlier range. O(log n + k) for k pairs. S2IX_CLOSED, S2IX_NO_RANGE.
   void contents(std::size_t place, std::uint64_t from, std::vector<Row>& rows) const {
     list(rows, [&](::s2ix_handle* handle, Row* to, std::size_t room, std::size_t* number) {
       return s2ix_contents(handle, place, from, to, room, number);
@@ -399,7 +399,7 @@ class Index {
     return rows;
   }
 
-  // The place of a range that has a pair over it: the first from the place `from` on, or the last before the place `before`. O(1).
+  // The place of a range that has a pair over it: the first from the place `from` on, or the last before the place `before`. O(log n).
   // S2IX_CLOSED, S2IX_NO_RANGE.
   [[nodiscard]] std::size_t next_full(std::size_t from) const {
     return number([&](::s2ix_handle* handle, std::size_t* to) { return s2ix_next_full(handle, from, to); });

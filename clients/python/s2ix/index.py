@@ -170,7 +170,7 @@ class Index:
 
     def copy(self) -> Index:
         """An index of its own that starts from what is held, under the same limits, with nothing to undo or redo. They share memory,
-        and calls on one need not wait for the other. O(n). Raises Closed or OutOfMemory."""
+        and calls on one need not wait for the other. O(p) for the p parts of some hundred pairs that an index is kept in. Raises Closed or OutOfMemory."""
         other = type(self).__new__(type(self))
         other._prepare()
         expect(self._calls.s2ix_copy(self._at_handle, other._at_handle))
@@ -205,8 +205,8 @@ class Index:
 
     def add_all(self, rows: Rows) -> int:
         """Adds rows, each a cell, a label and copies, as one change: in any order, and repeated or not; returns how many pairs changed. All are
-        added, or none. Each row keeps its cell: only `add_union` normalises. O(m log m + m log n) for m rows, and the pairs held on
-        their faces. `meet_view` says how rows in a memoryview are packed. Raises NoCell or NoLabel, with the wrong value of the first
+        added, or none. Each row keeps its cell: only `add_union` normalises. O(m log m) for m rows, besides the time of an
+        edit. `meet_view` says how rows in a memoryview are packed. Raises NoCell or NoLabel, with the wrong value of the first
         wrong row and its place, counted from 0; and what each edit may."""
         start, many, _kept = rows_in(rows)
         number = ctypes.c_size_t()
@@ -392,14 +392,14 @@ class Index:
         return self._listed(self._calls.s2ix_change, _ENTRY, _entries_of, number)
 
     def range(self, place: int) -> Range:
-        """The range at a place, counted from 0. An edit may move the places. O(1). Raises Closed or NoRange."""
+        """The range at a place, counted from 0. An edit may move the places. O(log n). Raises Closed or NoRange."""
         place = check(place, MOST_U64, NoRange)
         start, limit, is_empty = ctypes.c_uint64(), ctypes.c_uint64(), ctypes.c_bool()
         expect(self._calls.s2ix_range(self._at_handle, place, addressof(start), addressof(limit), addressof(is_empty)))
         return Range(place, start.value, limit.value, is_empty.value)
 
     def ranges(self, full: bool = False) -> Iterator[Range]:
-        """The ranges in order, which together have all leaves; with `full`, only those over which a pair lies. O(1) for each. Raises Closed, and
+        """The ranges in order, which together have all leaves; with `full`, only those over which a pair lies. O(log n) for each. Raises Closed, and
         RuntimeError if there was an edit, even a refused one, since the first: an edit moves the places."""
         place, edit = 0, self._last_edit()
         while True:
@@ -435,7 +435,7 @@ class Index:
 
     def contents(self, place: int, start: int = 0) -> list[Row]:
         """The pairs over the range at a place, the innermost cell first, the labels of one cell rising; of these only the ones whose cells begin
-        at the leaf number `start` or later. If `start` is the `limit` of an earlier range, the pairs over that range are left out. O(k) for
+        at the leaf number `start` or later. If `start` is the `limit` of an earlier range, the pairs over that range are left out. O(log n + k) for
         k pairs. Raises Closed, NoRange, or NoCell if `start` is no 64-bit number."""
         place = check(place, MOST_U64, NoRange)
         return self._listed(self._calls.s2ix_contents, _PACKED, _rows_of, place, number_of(start))
@@ -446,7 +446,7 @@ class Index:
         return self._listed(self._calls.s2ix_of_label, _PACKED, _rows_of, label)
 
     def pairs(self) -> Iterator[Row]:
-        """All pairs, in rising order of cell, then label. O(1) for each. They are read page by page, so don't edit while you go along them: a
+        """All pairs, in rising order of cell, then label. O(log n) for each. They are read page by page, so don't edit while you go along them: a
         page raises RuntimeError if there was an edit, even a refused one, since the first page. Raises Closed."""
         return self._paged(self._calls.s2ix_pairs)
 

@@ -1,5 +1,6 @@
 ghost use Rattle.std.specs.Prelude.{◌≡◌, ◌==◌, ℕ, ◌<◌, ◌≤◌, [], length, slice_get, Some, None, IfOk, IfErr, OnOk};
 ghost use Rattle.s2ix_bag_lists.specs.Faces.{IsFaceAt};
+ghost use Rattle.s2ix_bag_lists.specs.Parts.{IsPartAt};
 ghost use Rattle.s2ix_bag_lists.specs.Apply.{apply_refusal, IsApplyRefusal};
 ghost use Rattle.s2ix_bag_lists.specs.Revert.{revert_refusal, IsRevertRefusal};
 ghost use Rattle.s2ix_bag_pairs.specs.Change.{changed, IsChangeList};
@@ -11,7 +12,7 @@ use crate::change::Change;
 use crate::label_iter::LabelIter;
 use crate::revert::{entries_back, refusal};
 use s2id_core::OutOfMemory;
-use s2ix_bag_lists::{ApplyError, FaceLists, FlatHeld, HeldIter, HeldList, RevertError};
+use s2ix_bag_lists::{ApplyError, FaceLists, FlatHeld, HeldIter, HeldList, HeldParts, RevertError};
 use s2ix_bag_pairs::{Held, Label, Limits, Pair};
 use std::alloc::{AllocError, Global};
 use std::marker::Model;
@@ -43,6 +44,15 @@ impl Bag {
             limits,
             lists: FaceLists::empty(),
         }
+    }
+
+    /// The bag that holds no pair, and is cut into parts of at most so many pairs as it grows; other bags have 512. A part has more only if
+    /// cells leave no place to cut it. It does not allocate.
+    pub fn in_parts_of(_alloc: Global, limits: Limits, most: usize) -> Bag
+        ensures { result ≡ record { limits = limits; held = [] } }
+    {
+        let lists = FaceLists::in_parts_of(most);
+        Bag { limits, lists }
     }
 
     /// The bag with these limits that holds these pairs with these counts. O(n) for n pairs. `OutOfMemory` if a growth is refused.
@@ -95,7 +105,7 @@ impl Bag {
         copies
     }
 
-    /// The pair at a place in rising order, counted from 0, with its count.
+    /// The pair at a place in rising order, counted from 0, with its count. O(log p) for p parts.
     pub fn held(&self, k: usize) -> Held
         requires { k < length self.now.held }
         ensures { slice_get self.now.held k ≡ Some result }
@@ -103,21 +113,22 @@ impl Bag {
         self.lists.held(k)
     }
 
+    /// For a place in rising order, counted from 0: how many pairs come before the part of the bag that has it, and that part, which can be
+    /// shared. O(log p) for p parts.
+    pub fn part_at(&self, k: usize) -> (usize, &HeldList)
+        requires { k < length self.now.held }
+        ensures { IsPartAt k self.now.held result.0 result.1.now }
+    {
+        self.lists.part_at(k)
+    }
+
     /// For the pair at a place, counted from 0: the number of pairs on earlier faces, and the pairs held on its own face, with their
-    /// counts, in rising order. O(1).
-    pub fn face_at(&self, k: usize) -> (usize, &[FlatHeld])
+    /// counts, in rising order: the bag's own list, which can be shared. O(1).
+    pub fn face_at(&self, k: usize) -> (usize, &HeldParts)
         requires { k < length self.now.held }
         ensures { IsFaceAt k self.now.held result.0 result.1.now }
     {
         self.lists.face_at(k)
-    }
-
-    /// As [`face_at`](Bag::face_at), but the face's pairs come as the bag's own list, which can be shared. O(1).
-    pub fn list_at(&self, k: usize) -> (usize, &HeldList)
-        requires { k < length self.now.held }
-        ensures { IsFaceAt k self.now.held result.0 result.1.now }
-    {
-        self.lists.list_at(k)
     }
 
     /// The pairs held with a label, with their counts, by rising cell. To go through all of them takes O(n) for the n pairs of the whole
@@ -160,8 +171,9 @@ impl Bag {
     }
 
     /// The bag that a change makes of this one: each pair of the change has its count after, and no other count differs. Before it
-    /// allocates, it tests the three refusals in their order, each over all entries. `OutOfMemory` if a growth is refused. The pairs of the
-    /// faces without an entry are shared, the others copied: O(k + m) for m entries and the k pairs on their faces.
+    /// allocates, it tests the three refusals in their order, each over all entries. `OutOfMemory` if a growth is refused. The
+    /// parts without an entry are shared, the others copied: O(p + k + m log n) for m entries, n pairs in p parts and the k pairs of the
+    /// entries' parts.
     pub fn applied(&self, alloc: Global, change: &Change) -> Result<Bag, ApplyError>
         ensures limits { IfOk result (λ bag. bag.limits ≡ self.now.limits) }
         ensures held { IfOk result (λ bag. bag.held ≡ changed self.now.held change.now) }
@@ -200,8 +212,8 @@ impl Bag {
 
     /// The bag with a change taken back: the difference (the count after less the count before) is subtracted from the count of each of its
     /// pairs, and no other count differs. It refuses what [`Bag::reverting`] refuses, and returns `OutOfMemory` if a growth is refused. The
-    /// pairs of the faces without an entry are shared, the others copied: O(k + m log n) for m entries, n pairs and the k of them on the
-    /// entries' faces.
+    /// parts without an entry are shared, the others copied: O(p + k + m log n) for m entries, n pairs in p parts and the k pairs of the
+    /// entries' parts.
     pub fn reverted(&self, alloc: Global, change: &Change) -> Result<Bag, RevertError>
         ensures limits { IfOk result (λ bag. bag.limits ≡ self.now.limits) }
         ensures held { IfOk result (λ bag. bag.held ≡ taken_back self.now.held change.now) }

@@ -4,11 +4,11 @@ use Rattle.s2ix_bag_pairs.specs.Collection.{Collection, IsCollectionFrom, AreBel
 use Rattle.s2ix_bag_lists.specs.Faces.{all_of, face_start, AreFacesFrom, IsFaceAt, IsOnFace}
 use Rattle.s2ix_bag_lists.proofs.AmongFaces.{all_is, back_from, front_below, own_is}
 
-take_front : (fs hs : Collection) → take (length fs) (fs ++ hs) ≡ fs
+pub take_front : (fs hs : Collection) → take (length fs) (fs ++ hs) ≡ fs
 take_front [] hs = refl
 take_front (f ∷ fs) hs = ap (λ (x : Collection). f ∷ x) (take_front fs hs)
 
-drop_front : (fs hs : Collection) → drop (length fs) (fs ++ hs) ≡ hs
+pub drop_front : (fs hs : Collection) → drop (length fs) (fs ++ hs) ≡ hs
 drop_front [] hs = refl
 drop_front (f ∷ fs) hs = drop_front fs hs
 

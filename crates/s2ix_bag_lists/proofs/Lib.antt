@@ -10,3 +10,10 @@ pub mod AmongFaces
 pub mod Ends
 pub mod FaceByFace
 pub mod FaceAt
+pub mod Joins
+pub mod Searches
+pub mod Cuts
+pub mod Running
+pub mod Places
+pub mod Making
+pub mod FaceParts

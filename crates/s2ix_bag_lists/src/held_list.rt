@@ -1,12 +1,8 @@
-ghost use Rattle.std.specs.Prelude.{◌≡◌, ◌<◌, [], Some, length, slice_get, IfOk, OnOk};
-ghost use Rattle.s2ix_bag_lists.specs.Apply.{AreBefore};
-ghost use Rattle.s2ix_bag_pairs.specs.Change.{IsChangeList, changed};
-ghost use Rattle.s2ix_bag_pairs.specs.Collection.{IsCollection};
+ghost use Rattle.std.specs.Prelude.{◌≡◌, ◌<◌, [], Some, length, slice_get, IfOk};
 
-use crate::apply::merge;
 use crate::flat::FlatHeld;
 use s2id_core::OutOfMemory;
-use s2ix_bag_pairs::{Entry, Held};
+use s2ix_bag_pairs::Held;
 use std::alloc::{AllocError, Global};
 use std::marker::Model;
 use std::sync::Arc;
@@ -67,22 +63,6 @@ impl HeldList {
             Some(shared) => shared[place].held(),
             None => unreachable!(),
         }
-    }
-
-    // Applies entries that have the right counts before. Whoever shares the list keeps the pairs that it had; without an entry it stays
-    // shared. O(n + m) for n pairs and m entries.
-    pub(crate) fn apply(&mut self, alloc: Global, entries: &[Entry]) -> Result<(), OutOfMemory>
-        requires held_rise { IsCollection self.old }
-        requires entries_rise { IsChangeList entries.now }
-        requires before { AreBefore self.old entries.now }
-        ensures { OnOk result (self.new ≡ changed self.old entries.now) }
-    {
-        if entries.is_empty() {
-            return Ok(());
-        }
-        let held = merge(alloc, self.as_slice(), entries)?;
-        *self = HeldList::new(alloc, held)?;
-        Ok(())
     }
 }
 

@@ -11,6 +11,7 @@ use crate::errors::{ApplyError, ChangeError, RevertError};
 use crate::flat::FlatHeld;
 use crate::held_iter::HeldIter;
 use crate::held_list::HeldList;
+use crate::held_parts::HeldParts;
 use crate::lists::FaceLists;
 
 /// A list of entries is a change exactly if it has no fault.
@@ -55,6 +56,11 @@ pub fn equal_lists_are_one()
 /// A clone of a list of held pairs holds the same pairs with the same counts.
 pub fn cloned_held_lists_are_the_same()
     ensures { (list copy : Collection) → ⟦<HeldList as Clone>⟧.is_clone list copy ↔ (copy ≡ list) }
+{}
+
+/// A clone of a list in parts holds the same pairs with the same counts.
+pub fn cloned_held_parts_are_the_same()
+    ensures { (list copy : Collection) → ⟦<HeldParts as Clone>⟧.is_clone list copy ↔ (copy ≡ list) }
 {}
 
 /// A clone of the lists holds the same pairs with the same counts.

@@ -1,25 +1,26 @@
 ghost use Rattle.std.specs.Prelude.{◌≡◌, ◌==◌, ◌<◌, ◌≤◌, [], ◌∷◌, Some, not, length, slice_get, position, IfOk};
 ghost use Rattle.s2ix_bag_lists.specs.Faces.{IsFaceAt};
+ghost use Rattle.s2ix_bag_lists.specs.Parts.{IsPartAt};
 ghost use Rattle.s2ix_bag_lists.specs.Apply.{AreBefore, apply_refusal};
 ghost use Rattle.s2ix_bag_pairs.specs.Change.{IsChangeList, changed};
 ghost use Rattle.s2ix_bag_pairs.specs.Collection.{IsCollection, count_in};
 
-use crate::apply::{first_mismatch, gains, has_count_above, losses};
+use crate::apply::{gains, has_count_above, losses};
 use crate::errors::ApplyError;
 use crate::face_ends::{entries_up_to, held_up_to};
 use crate::flat::FlatHeld;
 use crate::held_iter::HeldIter;
 use crate::held_list::HeldList;
-use crate::search::count_of;
+use crate::held_parts::{HeldParts, MOST_PAIRS, append_parts};
 use s2id_core::{FACES, OutOfMemory};
 use s2ix_bag_pairs::{Entry, Held, Limits, Pair};
 use std::alloc::{AllocError, Global};
 use std::marker::Model;
 
-/// Held pairs, at most 1,000,000, in one list for each face. Contracts see the one list that they make up, in rising order of pairs.
+/// Held pairs, at most 1,000,000, in one list of parts for each face. Contracts see the one list that they make up, in rising order of pairs.
 #[derive(Debug, Drop)]
 pub struct FaceLists {
-    lists: [HeldList; FACES],
+    lists: [HeldParts; FACES],
     len: usize,
 }
 
@@ -34,17 +35,17 @@ impl Model for FaceLists {
     ghost invariant = { λ s. AreFaces s.lists s.len };
 }
 
-// Six lists without pairs.
-fn empty_lists() -> [HeldList; FACES]
+// Six lists without pairs, to be cut into parts of at most so many pairs.
+fn empty_lists(most: usize) -> [HeldParts; FACES]
     ensures { result ≡ [] ∷ [] ∷ [] ∷ [] ∷ [] ∷ [] ∷ [] }
 {
     [
-        HeldList::empty(),
-        HeldList::empty(),
-        HeldList::empty(),
-        HeldList::empty(),
-        HeldList::empty(),
-        HeldList::empty(),
+        HeldParts::in_parts_of(most),
+        HeldParts::in_parts_of(most),
+        HeldParts::in_parts_of(most),
+        HeldParts::in_parts_of(most),
+        HeldParts::in_parts_of(most),
+        HeldParts::in_parts_of(most),
     ]
 }
 
@@ -53,8 +54,16 @@ impl FaceLists {
     pub fn empty() -> FaceLists
         ensures { result ≡ [] }
     {
+        FaceLists::in_parts_of(MOST_PAIRS)
+    }
+
+    /// The lists that hold no pair, each of which is cut into parts of at most so many pairs as it grows. A part has more only if cells leave
+    /// no place to cut it. They do not allocate.
+    pub fn in_parts_of(most: usize) -> FaceLists
+        ensures { result ≡ [] }
+    {
         FaceLists {
-            lists: empty_lists(),
+            lists: empty_lists(most),
             len: 0,
         }
     }
@@ -65,11 +74,11 @@ impl FaceLists {
         requires few { length held.now ≤ 1000000 }
         ensures { IfOk result (λ lists. lists ≡ held.now) }
     {
-        let mut lists = empty_lists();
+        let mut lists = empty_lists(MOST_PAIRS);
         let mut rest = held;
         for face in 0..FACES {
             let (own, later) = rest.split_at(held_up_to(rest, face));
-            lists[face] = HeldList::new(alloc, Vec::from_slice(alloc, own)?)?;
+            lists[face] = HeldParts::new(alloc, own)?;
             rest = later;
         }
         Ok(FaceLists {
@@ -82,8 +91,7 @@ impl FaceLists {
     pub fn count(&self, pair: Pair) -> u32
         ensures { result ≡ count_in self.now pair }
     {
-        let own = &self.lists[usize::from(pair.cell.face())];
-        count_of(own.as_slice(), pair)
+        self.lists[usize::from(pair.cell.face())].count(pair)
     }
 
     /// How many distinct pairs are held.
@@ -95,32 +103,33 @@ impl FaceLists {
         self.len
     }
 
-    /// The pair at a place in rising order, counted from 0, with its count. O(1).
+    /// The pair at a place in rising order, counted from 0, with its count. O(log p) for p parts.
     pub fn held(&self, place: usize) -> Held
         requires { place < length self.now }
         ensures { slice_get self.now place ≡ Some result }
     {
-        let (before, own) = self.face_at(place);
-        own[place - before].held()
+        let (before, part) = self.part_at(place);
+        part.at(place - before)
+    }
+
+    /// For a place in rising order, counted from 0: how many pairs come before the part that has it, and that part. O(log p) for p parts.
+    pub fn part_at(&self, place: usize) -> (usize, &HeldList)
+        requires { place < length self.now }
+        ensures { IsPartAt place self.now result.0 result.1.now }
+    {
+        let (before_face, list) = self.face_at(place);
+        let (before, part) = list.part_at(place - before_face);
+        (before_face + before, part)
     }
 
     /// How many pairs come before the face that the pair at a place is of, counted from 0, and all pairs held on that face. O(1).
-    pub fn face_at(&self, place: usize) -> (usize, &[FlatHeld])
-        requires { place < length self.now }
-        ensures { IsFaceAt place self.now result.0 result.1.now }
-    {
-        let (before, list) = self.list_at(place);
-        (before, list.as_slice())
-    }
-
-    /// The same, with the pairs of the face in the list that is shared. O(1).
-    pub fn list_at(&self, place: usize) -> (usize, &HeldList)
+    pub fn face_at(&self, place: usize) -> (usize, &HeldParts)
         requires { place < length self.now }
         ensures { IsFaceAt place self.now result.0 result.1.now }
     {
         let mut before = 0;
         for list in &self.lists {
-            let len = list.as_slice().len();
+            let len = list.len();
             if place - before < len {
                 return (before, list);
             }
@@ -142,13 +151,13 @@ impl FaceLists {
     {
         let mut all = Vec::with_capacity(alloc, self.len)?;
         for list in &self.lists {
-            all.extend_from_slice(list.as_slice())?;
+            append_parts(&mut all, list.parts())?;
         }
         Ok(all)
     }
 
-    /// Why a change is refused, memory aside: each test goes over all entries, in the order of the errors. O(k + m) for m entries
-    /// and the k pairs held on their faces.
+    /// Why a change is refused, memory aside: each test goes over all entries, in the order of the errors. O(m log n)
+    /// for m entries and n pairs.
     pub fn refusal(&self, limits: Limits, entries: &[Entry]) -> Option<ApplyError>
         requires { IsChangeList entries.now }
         ensures { result ≡ apply_refusal (record { limits = limits; held = self.now }) entries.now }
@@ -165,8 +174,7 @@ impl FaceLists {
         None
     }
 
-    // The place of the first entry whose count before is not that of the held pairs. O(k + m) for m entries and the k pairs held on their
-    // faces.
+    // The place of the first entry whose count before is not that of the held pairs. O(m log n) for m entries and n pairs.
     fn mismatch(&self, entries: &[Entry]) -> Option<usize>
         requires { IsChangeList entries.now }
         ensures { result ≡ position (λ e. not (e.before == count_in self.now e.pair)) entries.now }
@@ -175,7 +183,7 @@ impl FaceLists {
         let mut passed = 0;
         for face in 0..FACES {
             let (own, later) = rest.split_at(entries_up_to(rest, face));
-            if let Some(place) = first_mismatch(self.lists[face].as_slice(), own) {
+            if let Some(place) = self.lists[face].first_mismatch(own) {
                 return Some(passed + place);
             }
             passed += own.len();
@@ -193,8 +201,8 @@ impl FaceLists {
         self.len + gains(entries) - losses(entries)
     }
 
-    /// What a change that has the right counts before makes of the pairs. The lists of the faces without an entry are shared, the others
-    /// copied: O(k + m) for m entries and the k pairs held on their faces. `OutOfMemory` if a growth is refused.
+    /// What a change that has the right counts before makes of the pairs. The parts without an entry are shared, the others
+    /// copied: O(p + k + m) for m entries, the p parts of their faces and the k pairs of the entries' parts. `OutOfMemory` if a growth is refused.
     pub fn after(&self, alloc: Global, entries: &[Entry]) -> Result<FaceLists, OutOfMemory>
         requires entries_rise { IsChangeList entries.now }
         requires before { AreBefore self.now entries.now }
@@ -206,7 +214,7 @@ impl FaceLists {
         let mut rest = entries;
         for face in 0..FACES {
             let (own, later) = rest.split_at(entries_up_to(rest, face));
-            lists[face].apply(alloc, own)?;
+            lists[face] = lists[face].after(alloc, own)?;
             rest = later;
         }
         Ok(FaceLists { lists, len })

@@ -1,5 +1,5 @@
 //! What a bag is asked.
-use s2ix_bag::Bag;
+use s2ix_bag::{Bag, HeldParts};
 use s2ix_bag_samples::{
     LimitRow, are_flat_pairs, bag_of, held_of, holds_pairs, label_of, limits_of, pair_of,
 };
@@ -34,15 +34,23 @@ fn has_label(bag: &Bag, label: &str, pairs: &str) -> bool {
     left.next().is_none()
 }
 
+// Whether a list has these pairs, in one part.
+fn is_one_part(list: &HeldParts, pairs: &str) -> bool {
+    match list.parts() {
+        [part] => are_flat_pairs(part.as_slice(), pairs),
+        _ => false,
+    }
+}
+
 // Whether these pairs are those of the face at a place, and so many stand before them.
 fn stand_on_face(bag: &Bag, place: usize, before: usize, pairs: &str) -> bool {
     if bag.len() <= place {
         return false;
     }
-    let (first, own) = bag.face_at(place);
-    let (same, list) = bag.list_at(place);
+    let (first, list) = bag.face_at(place);
+    let (same, part) = bag.part_at(place);
     let is_before = first == before && same == before;
-    is_before && are_flat_pairs(own, pairs) && are_flat_pairs(list.as_slice(), pairs)
+    is_before && is_one_part(list, pairs) && are_flat_pairs(part.as_slice(), pairs)
 }
 
 #[test]

@@ -10,6 +10,8 @@ mod bag_tests;
 #[cfg(test)]
 mod list_tests;
 #[cfg(test)]
+mod parts_tests;
+#[cfg(test)]
 mod refused_growths;
 #[cfg(test)]
 mod refused_tests;

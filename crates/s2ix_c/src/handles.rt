@@ -103,10 +103,7 @@ pub extern "C" fn s2ix_load(
 fn copy_store(alloc: Global, store: &Store, copy: &mut Handle) -> u32
     ensures { IsCopied store.now result (held_of copy.old) (held_of copy.new) }
 {
-    let Ok(bag) = store.bag().clone() else {
-        return OUT_OF_MEMORY;
-    };
-    let Ok(other) = Store::from_bag(alloc, bag) else {
+    let Ok(other) = store.copied() else {
         return OUT_OF_MEMORY;
     };
     keep(alloc, copy, other)

@@ -5,8 +5,9 @@
 //! only the collection. A refused step leaves the store as it was. The store keeps the range table of its collection
 //! beside it, for queries.
 //!
-//! Each step rebuilds only the faces that it changes, in a time that grows with the pairs held there. A store drops no change by itself:
-//! when the number of changes that can be undone reaches the limit, edits are refused until one is undone or all are forgotten.
+//! Bag and table are kept in parts of some hundred pairs. A step makes anew only the parts that it changes, and copies a short list of all of
+//! them. A store drops no change by itself: when the number of changes that can be undone reaches the limit, edits are refused until one is
+//! undone or all are forgotten.
 #![tactic(auto)]
 
 pub mod laws;

@@ -79,21 +79,42 @@ impl Store {
         ensures history { IfOk result (λ store. history_of store ≡ alone bag.held) }
     {
         let table = StoreTable::build(alloc, &bag)?;
-        Ok(Store {
+        Ok(Store::starting(alloc, bag, table))
+    }
+
+    // The store of a bag and its table, with nothing to undo or redo.
+    fn starting(alloc: Global, bag: Bag, table: StoreTable) -> Store
+        requires { ⟦<StoreTable as RangeTable>⟧.pairs table ≡ bag.held }
+        ensures { result ≡ starting_at bag }
+    {
+        Store {
             alloc,
             bag,
             table,
             done: Vec::new(alloc),
             undone: Vec::new(alloc),
             faces_rebuilt: 0,
-        })
+        }
+    }
+
+    /// A store that starts from this one's collection, with the same limits and nothing to undo or redo. The two share pairs and table, and each
+    /// is edited by itself, on whatever thread. `OutOfMemory` if a growth is refused. It costs what the table's
+    /// [`copied`](s2ix_table::FacedTable::copied) does.
+    pub fn copied(&self) -> Result<Store, OutOfMemory>
+        ensures state { IfOk result (λ store. store ≡ starting_at self.now.bag) }
+        ensures history { IfOk result (λ store. history_of store ≡ alone self.now.bag.held) }
+    {
+        let bag = self.bag.copied(self.alloc)?;
+        let table = self.table.copied(self.alloc)?;
+        Ok(Store::starting(self.alloc, bag, table))
     }
 
     /// Carries an edit out, and returns how many pairs changed their counts. An accepted edit records the change at the end of `done` and
     /// empties `undone`; a refused one changes nothing. [`EditError`] says when each refusal is due. If the journal has room, an `Add` or a
     /// `Remove` of no copies, or an `AddUnion` of no cells, is `NoChange` and does not allocate. It costs what [`plan`] does, the
-    /// freeing of the undone changes, and O(m + p + log n) for a change of m entries, if p of the n pairs that are held lie on the faces of
-    /// these entries. Only those faces are rebuilt. Besides the plan, the new bag, its table and the slot in `done` want memory.
+    /// freeing of the undone changes, and O(m log n + q + k) for a change of m entries, if the n pairs that are held are kept in q parts, and
+    /// k of them in the parts that cells of these entries touch: only those parts are made anew. Besides the plan, the new bag, its table and
+    /// the slot in `done` want memory.
     pub fn edit(&mut self, edit: &Edit) -> Result<usize, EditError>
         ensures state { OnOk result (self.new ≡ after_edit self.old edit.now) }
         ensures history { OnOk result (history_of self.new
@@ -149,8 +170,8 @@ impl Store {
     /// any order, and the copies of a pair that comes more than once are added up. The change is recorded as that of an edit is: it can be
     /// undone, done again and reverted. A refusal changes nothing. The rows are judged as one, and the first refusal that is due is
     /// returned: `JournalFull`, then `NoChange` if no row has copies, then `TooManyCopies`, then `TooManyPairs`. `OutOfMemory` may replace
-    /// the last two; there is no other refusal. For m rows it costs O(m log m + m log n + p), if p of the n pairs that are held lie on the
-    /// faces of the rows. This project's own.
+    /// the last two; there is no other refusal. For m rows it costs O(m log m) more than an edit of m entries does. This
+    /// project's own.
     pub fn add_all(&mut self, rows: &[Held]) -> Result<usize, EditError>
         ensures state { OnOk result (self.new ≡ after_rows self.old rows.now) }
         ensures history { OnOk result (history_of self.new
@@ -199,8 +220,8 @@ impl Store {
     }
 
     /// Takes the last change back, and returns how many pairs it had. The change goes to the end of `undone`. `NothingToUndo` is tested
-    /// first; then `OutOfMemory` if a growth is refused. O(m + p + log n) if the change has m entries, and p of the n pairs are held on
-    /// their faces. Only for these faces bag and table are built again.
+    /// first; then `OutOfMemory` if a growth is refused. It costs what an edit with
+    /// this change does beside its plan.
     pub fn undo(&mut self) -> Result<usize, UndoError>
         ensures state { OnOk result (self.new ≡ after_undo self.old) }
         ensures history { OnOk result (history_of self.new ≡ one_back (history_of self.old)) }
@@ -279,7 +300,7 @@ impl Store {
         &self.table
     }
 
-    /// How many faces, 0 to 6, the last accepted edit, undo or redo rebuilt: those with an entry of its change. It is 0 before the first
+    /// How many faces, 0 to 6, the last accepted edit, undo or redo rebuilt, if only in part: those with an entry of its change. It is 0 before the first
     /// step, and a refused step leaves it as it was. O(1).
     pub fn faces_rebuilt(&self) -> u8
         ensures { result ≡ self.now.faces_rebuilt }

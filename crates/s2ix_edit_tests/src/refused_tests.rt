@@ -265,4 +265,6 @@ fn refused_stores(rt: HostRuntime) {
     let equal = all_faces(&rt, rt.alloc());
     let store = started(&rt, rt.alloc(), bag, equal);
     check_seen(&rt, &store, &STARTED);
+    let copy = answer!(&rt, store.copied());
+    check_seen(&rt, &copy, &STARTED);
 }

@@ -3,6 +3,7 @@ use s2id_samples::are_cells;
 use s2ix_bag::Limits;
 use s2ix_bag_samples::{WIDEST, are_changes, bag_of, holds_pairs, label_of, list_of, pair_of};
 use s2ix_edit::{Edit, Store, UndoError};
+use s2ix_table::RangeTable;
 
 #[test]
 fn rows_are_added_as_one_change(rt: HostRuntime) {
@@ -25,6 +26,20 @@ fn a_change_is_taken_back_and_all_forgotten(rt: HostRuntime) {
     store.forget();
     assert!(rt; holds_pairs(store.bag(), "04:9:3"));
     assert!(rt; store.undo() == Err(UndoError::NothingToUndo));
+}
+
+#[test]
+fn a_copy_is_edited_by_itself(rt: HostRuntime) {
+    let mut store = Store::new(rt.alloc(), Limits::default()).expect(&rt, "a store");
+    let pair = pair_of("04:9").expect(&rt, "a pair");
+    assert!(rt; store.edit(&Edit::Add { pair, copies: 2 }) == Ok(1));
+    let mut copy = store.copied().expect(&rt, "a copy");
+    assert!(rt; holds_pairs(copy.bag(), "04:9:2") && copy.done().is_empty());
+    assert!(rt; copy.table().range_count() == store.table().range_count());
+    assert!(rt; copy.undo() == Err(UndoError::NothingToUndo));
+    assert!(rt; copy.edit(&Edit::Add { pair, copies: 3 }) == Ok(1));
+    assert!(rt; holds_pairs(copy.bag(), "04:9:5") && holds_pairs(store.bag(), "04:9:2"));
+    assert!(rt; store.undo() == Ok(1) && holds_pairs(copy.bag(), "04:9:5"));
 }
 
 // Two sets of four siblings under the label 9, at two levels, and a cell of another label.

@@ -1,29 +1,26 @@
 -- What lies on each of the six faces makes up what is held.
-use Rattle.std.proofs.Common.{◌≡◌, ℕ, zero, suc, ◌+◌, ◌*◌, ◌<◌, ◌≤◌, ◌==◌, inl, inr, true, false, cond, List, [], ◌∷◌, ◌++◌, length, map, set, flat_map, refl, sym, ◌∙◌, ap, ap₂, arith, Contains, subst}
+use Rattle.std.proofs.Common.{◌≡◌, ℕ, zero, suc, ◌+◌, ◌*◌, ◌<◌, ◌≤◌, ◌==◌, inl, inr, true, false, cond, List, [], ◌∷◌, ◌++◌, length, flat_map, refl, sym, ◌∙◌, ap, arith, Contains, subst}
 use Rattle.std.proofs.lemmas.Bool.{cases_Bool, cases_eq, cond-true, cond-false}
 use Rattle.std.proofs.lemmas.Bool.Decides.{nat_tests}
-use Rattle.std.proofs.lemmas.List.Folds.{flat_map-map}
 use Rattle.s2id_core.specs.CellId.{raw_of, face_of}
 use Rattle.s2id_core.proofs.Lists.{in_tail, at_head, none_in_nil, cons_cases}
-use Rattle.s2ix_bag_pairs.specs.Collection.{Collection, IsCollection, IsCollectionFrom}
+use Rattle.s2ix_bag_pairs.specs.Collection.{Collection, IsCollectionFrom}
 use Rattle.s2ix_bag_pairs.specs.Pair.{rank_of}
 use Rattle.s2ix_bag_pairs.specs.Label.{value_of}
 use Rattle.s2ix_bag_pairs.specs.declared.pair.Held.{Held}
 use Rattle.s2ix_bag_pairs.proofs.Counts.{from_lower}
 use Rattle.s2ix_table_walk.proofs.Lists.{later_rank}
-use Rattle.s2ix_table_spans.specs.SpanTable.{SpanRanges}
-use Rattle.s2ix_table.specs.Joined.{held_in}
-use Rattle.s2ix_table.specs.Faces.{faces, held_on}
+use Rattle.s2ix_table.specs.Faces.{held_on}
 use Rattle.s2ix_table.proofs.Unchanged.{on_face, off_face}
-use Rattle.s2ix_table.specs.FaceSpans.{face_begin, AreOnFace, IsOverFace, AreOverFaces}
+use Rattle.s2ix_table.specs.FaceSpans.{face_begin, AreOnFace}
 use Rattle.s2ix_table_walk.proofs.OnFaces.{six_faces}
 use Rattle.s2ix_table.proofs.InSpans.{raw_on_face}
 
-faces_from : ℕ → ℕ → List ℕ
+unfoldable pub faces_from : ℕ → ℕ → List ℕ
 faces_from n zero = []
 faces_from n (suc k) = n ∷ faces_from (n + 1) k
 
-on_each : Collection → ℕ → Collection
+unfoldable pub on_each : Collection → ℕ → Collection
 on_each hs face = held_on face hs
 
 -- ---- one pair more in front
@@ -67,10 +64,10 @@ nothing n (suc k) = nothing (n + 1) k
 
 -- ---- all pairs
 
-raw_rises : (a b l m : ℕ) → l ≤ 2147483647 → m ≤ 2147483647 → a * 2147483648 + l < b * 2147483648 + m → a ≤ b
+pub raw_rises : (a b l m : ℕ) → l ≤ 2147483647 → m ≤ 2147483647 → a * 2147483648 + l < b * 2147483648 + m → a ≤ b
 raw_rises a b l m x y lt = omega arith
 
-face_rises : (f g a b : ℕ) → face_begin f ≤ a → b < face_begin (g + 1) → a ≤ b → f ≤ g
+pub face_rises : (f g a b : ℕ) → face_begin f ≤ a → b < face_begin (g + 1) → a ≤ b → f ≤ g
 face_rises f g a b x y le = omega arith
 
 faces_rise : (n : ℕ) (h : Held) (hs : Collection) → IsCollectionFrom n (h ∷ hs) → (x : Held) → Contains hs x
@@ -80,14 +77,11 @@ faces_rise n h hs c x held =
     let raws = raw_rises (raw_of h.pair.cell) (raw_of x.pair.cell) (value_of h.pair.label) (value_of x.pair.label) h.pair.label.in_range x.pair.label.in_range (omega arith) in
     face_rises (face_of h.pair.cell) (face_of x.pair.cell) (raw_of h.pair.cell) (raw_of x.pair.cell) (raw_on_face h.pair.cell).0 (raw_on_face x.pair.cell).1 raws
 
-made_up : (n : ℕ) (hs : Collection) → IsCollectionFrom n hs → flat_map (on_each hs) (faces_from 0 6) ≡ hs
+-- what lies on each of them, one after the other, is all
+pub made_up : (n : ℕ) (hs : Collection) → IsCollectionFrom n hs → flat_map (on_each hs) (faces_from 0 6) ≡ hs
 made_up n [] c = nothing 0 6
 made_up n (h ∷ hs) c =
     in_front 0 6 h hs (omega arith) (let six = six_faces h.pair.cell in omega arith) (faces_rise n h hs c) ∙ ap (λ xs. h ∷ xs) (made_up (rank_of h.pair + 1) hs c.2)
-
-pub all_faces : (hs : Collection) → IsCollection hs → flat_map (λ face. held_on face hs) faces ≡ hs
-unfolding faces_from on_each
-all_faces hs c = made_up 0 hs c
 
 -- ---- what lies on one face
 
@@ -121,28 +115,3 @@ lie_on face (h ∷ hs) x c =
           ])
       | inr f ↦ lie_on face hs x (subst (λ xs. Contains xs x) (cond-false _ (h ∷ held_on face hs) (held_on face hs) f) c)
     ]
-
--- ---- tables of the faces
-
--- tables with the pairs of their faces hold all pairs
-pub all_parts : (hs : Collection) (tables : List SpanRanges) → IsCollection hs
-    → map (λ t. t.held) tables ≡ map (λ face. held_on face hs) faces → held_in tables ≡ hs
-all_parts hs tables is parts =
-    sym (flat_map-map (λ (xs : Collection). xs) (λ (t : SpanRanges). t.held) tables)
-    ∙ ap (λ (lists : List Collection). flat_map (λ (xs : Collection). xs) lists) parts
-    ∙ flat_map-map (λ (xs : Collection). xs) (λ (face : ℕ). held_on face hs) faces
-    ∙ all_faces hs is
-
--- the lists of the six faces
-pub six_parts : (hs a b c d e f : Collection) → a ≡ held_on 0 hs → b ≡ held_on 1 hs → c ≡ held_on 2 hs → d ≡ held_on 3 hs → e ≡ held_on 4 hs
-    → f ≡ held_on 5 hs → a ∷ b ∷ c ∷ d ∷ e ∷ f ∷ [] ≡ map (λ face. held_on face hs) faces
-six_parts hs a b c d e f pa pb pc pd pe pf =
-    let put : Collection → List Collection → List Collection = λ xs xss. xs ∷ xss in
-    ap₂ put pa (ap₂ put pb (ap₂ put pc (ap₂ put pd (ap₂ put pe (ap₂ put pf refl)))))
-
--- a table over the span of a face is put into its place
-pub over_set : (first i face : ℕ) (tables : List SpanRanges) (t : SpanRanges) → face ≡ first + i → AreOverFaces first tables
-    → IsOverFace face t → AreOverFaces first (set tables i t)
-over_set first i face [] t e over is = tt
-over_set first zero face (x ∷ xs) t e over is = let here : face ≡ first = omega arith in (subst (λ k. IsOverFace k t) here is, over.1)
-over_set first (suc i) face (x ∷ xs) t e over is = (over.0, over_set (first + 1) i face xs t (omega arith) over.1 is)

@@ -71,7 +71,7 @@ contents_back q b hs ks le end =
 rank_before : (raw label b : ℕ) → label ≤ 2147483647 → raw < b → raw * 2147483648 + label < b * 2147483648
 rank_before raw label b fits lt = omega arith
 
-below_cut : (b : ℕ) (hs : Collection) → EndBy hs b → AreBelow (b * 2147483648) hs
+pub below_cut : (b : ℕ) (hs : Collection) → EndBy hs b → AreBelow (b * 2147483648) hs
 below_cut b [] end = tt
 below_cut b (h ∷ hs) end =
     let s = span (raw_of h.pair.cell) h.pair.cell.valid in
@@ -81,7 +81,7 @@ below_cut b (h ∷ hs) end =
       below_cut b hs (λ x held. end x (in_tail h hs x held)),
     )
 
-from_cut : (b : ℕ) (hs : Collection) → IsCollection hs → BeginFrom hs b → IsCollectionFrom (b * 2147483648) hs
+pub from_cut : (b : ℕ) (hs : Collection) → IsCollection hs → BeginFrom hs b → IsCollectionFrom (b * 2147483648) hs
 from_cut b [] c begin = tt
 from_cut b (h ∷ hs) c begin =
     let s = span (raw_of h.pair.cell) h.pair.cell.valid in

@@ -166,3 +166,13 @@ pub length_offsets : (offset : Offset) (tables : List SpanRanges) → length (of
 length_offsets offset [] = refl
 length_offsets offset (t ∷ []) = refl
 length_offsets offset (t ∷ u ∷ us) = ap suc (length_offsets (offset_after offset t.ranges u.ranges) (u ∷ us))
+
+-- each offset but the first is the one after that of the part before
+pub offset_next : (offset : Offset) (parts : List SpanRanges) (i : ℕ) (d : SpanRanges) (e : Offset) → suc i < length parts
+    → get_or (offsets_from offset parts) (suc i) e
+    ≡ offset_after (get_or (offsets_from offset parts) i e) (get_or parts i d).ranges (get_or parts (suc i) d).ranges
+offset_next offset [] i d e lt = absurd (omega arith)
+offset_next offset (t ∷ []) i d e lt = absurd (omega arith)
+offset_next offset (t ∷ u ∷ []) zero d e lt = refl
+offset_next offset (t ∷ u ∷ v ∷ us) zero d e lt = refl
+offset_next offset (t ∷ u ∷ us) (suc i) d e lt = offset_next (offset_after offset t.ranges u.ranges) (u ∷ us) i d e (omega arith)

@@ -1,48 +1,61 @@
--- The pairs of each face's table among those of all.
-use Rattle.std.proofs.Common.{◌≡◌, ℕ, zero, suc, ◌+◌, ◌<◌, ◌≤◌, ◌==◌, inl, inr, true, false, List, [], ◌∷◌, ◌++◌, length, get_or, map, refl, sym, ◌∙◌, ap, arith}
+-- The pairs of each face's parts among those of all.
+use Rattle.std.proofs.Common.{◌≡◌, ℕ, zero, suc, ◌+◌, ◌<◌, ◌≤◌, inl, inr, ◌==◌, List, [], ◌∷◌, ◌++◌, length, take, drop, refl, sym, ◌∙◌, ap, ap₂, arith, subst}
 use Rattle.std.proofs.lemmas.Bool.{cases_Bool, cond-true, cond-false}
-use Rattle.std.proofs.lemmas.Bool.Decides.{nat_tests}
+use Rattle.std.proofs.lemmas.Grind.{flat_map-append}
+use Rattle.std.proofs.lemmas.List.{append-nil}
 use Rattle.s2id_core.specs.CellId.{face_of, first_of, end_of}
 use Rattle.s2id_core.proofs.Lists.{in_tail, at_head}
 use Rattle.s2ix_bag_pairs.specs.Collection.{Collection}
 use Rattle.s2ix_table_walk.proofs.Over.{span_of}
-use Rattle.s2ix_table_spans.specs.SpanTable.{SpanRanges, IsSpanTable}
-use Rattle.s2ix_table.specs.Faces.{faces, held_on}
-use Rattle.s2ix_table.specs.FaceSpans.{face_begin, AreOnFace, IsOverFace, AreOverFaces}
+use Rattle.s2ix_table_spans.specs.SpanTable.{SpanRanges}
+use Rattle.s2ix_table.specs.Faces.{held_on}
+use Rattle.s2ix_table.specs.FaceSpans.{face_begin}
 use Rattle.s2ix_table.specs.Joined.{held_in, AreNeighbours}
-use Rattle.s2ix_table.proofs.AllFaces.{six_parts}
+use Rattle.s2ix_table.proofs.Appended.{EndBy, BeginFrom}
+use Rattle.s2ix_table.proofs.Cuts.{cut, front, back, between, all_end}
 use Rattle.s2ix_table.proofs.InSpans.{cell_on_face}
+use Rattle.s2ix_table.proofs.Neighbours.{all_begin}
+use Rattle.s2ix_table.proofs.Unchanged.{on_face, off_face}
 
--- one face begins by the end of another and ends after its begin
+-- ---- pairs within a face's span, and outside of it
+
 same_face : (f g first end : ℕ) → face_begin f ≤ first → end ≤ face_begin (f + 1) → first < end → face_begin g ≤ first
     → end ≤ face_begin (g + 1) → g ≡ f
 same_face f g first end a b c d e = omega arith
 
--- the pairs of a table over a face lie on it
-pub held_lie_on : (face : ℕ) (t : SpanRanges) → IsOverFace face t → IsSpanTable t → AreOnFace face t.held
-held_lie_on face t over is h held =
-    let s = span_of h in
-    let rises = s.rises in
-    let from = is.within.begins h held in
-    let to = is.within.ends h held in
+all_kept : (face : ℕ) (hs : Collection) → BeginFrom hs (face_begin face) → EndBy hs (face_begin (face + 1)) → held_on face hs ≡ hs
+all_kept face [] begin end = refl
+all_kept face (h ∷ hs) begin end =
+    let rises = (span_of h).rises in
     let on = cell_on_face h.pair.cell in
-    let a = over.from in
-    let b = over.to in
-    same_face face (face_of h.pair.cell) (first_of h.pair.cell) (end_of h.pair.cell) (omega arith) (omega arith) (omega arith) on.0 on.1
+    let is =
+    same_face face (face_of h.pair.cell) (first_of h.pair.cell) (end_of h.pair.cell) (begin h (at_head h hs)) (end h (at_head h hs)) (omega arith)
+    on.0 on.1 in
+    on_face face h hs is
+    ∙ ap (λ ks. h ∷ ks) (all_kept face hs (λ x held. begin x (in_tail h hs x held)) (λ x held. end x (in_tail h hs x held)))
 
-all_kept : (face : ℕ) (hs : Collection) → AreOnFace face hs → held_on face hs ≡ hs
-all_kept face [] on = refl
-all_kept face (h ∷ hs) on =
-    let is = on h (at_head h hs) in
-    let test : (face_of h.pair.cell == face) ≡ true = grind (arith, nat_tests) in
-    cond-true _ (h ∷ held_on face hs) (held_on face hs) test ∙ ap (λ ks. h ∷ ks) (all_kept face hs (λ x held. on x (in_tail h hs x held)))
+before_face : (f first end : ℕ) → face_begin f ≤ first → first < end → end ≤ face_begin f → ⊥
+before_face f first end a b c = omega arith
 
-none_kept : (face other : ℕ) (hs : Collection) → (face ≡ other → ⊥) → AreOnFace other hs → held_on face hs ≡ []
-none_kept face other [] ne on = refl
-none_kept face other (h ∷ hs) ne on =
-    let is = on h (at_head h hs) in
-    let test : (face_of h.pair.cell == face) ≡ false = grind (arith, nat_tests) in
-    cond-false _ (h ∷ held_on face hs) (held_on face hs) test ∙ none_kept face other hs ne (λ x held. on x (in_tail h hs x held))
+none_before : (face : ℕ) (hs : Collection) → EndBy hs (face_begin face) → held_on face hs ≡ []
+none_before face [] end = refl
+none_before face (h ∷ hs) end =
+    let rises = (span_of h).rises in
+    let on = cell_on_face h.pair.cell in
+    let by = end h (at_head h hs) in
+    off_face face h hs
+    (λ e. before_face face (first_of h.pair.cell) (end_of h.pair.cell) (subst (λ n. face_begin n ≤ first_of h.pair.cell) e on.0) (omega arith) by)
+    ∙ none_before face hs (λ x held. end x (in_tail h hs x held))
+
+none_after : (face : ℕ) (hs : Collection) → BeginFrom hs (face_begin (face + 1)) → held_on face hs ≡ []
+none_after face [] begin = refl
+none_after face (h ∷ hs) begin =
+    let rises = (span_of h).rises in
+    let on = cell_on_face h.pair.cell in
+    let from = begin h (at_head h hs) in
+    off_face face h hs
+    (λ e. let to = subst (λ n. end_of h.pair.cell ≤ face_begin (n + 1)) e on.1 in omega (arith, to, from, rises))
+    ∙ none_after face hs (λ x held. begin x (in_tail h hs x held))
 
 both_kept : (face : ℕ) (hs ks : Collection) → held_on face (hs ++ ks) ≡ held_on face hs ++ held_on face ks
 both_kept face [] ks = refl
@@ -56,47 +69,52 @@ both_kept face (h ∷ hs) ks =
           ∙ ap (λ xs. xs ++ held_on face ks) (sym (cond-false _ (h ∷ held_on face hs) (held_on face hs) f))
     ]
 
-no_pair : (xs : Collection) → xs ++ [] ≡ xs
-no_pair [] = refl
-no_pair (x ∷ xs) = ap (λ ys. x ∷ ys) (no_pair xs)
+-- ---- the parts of a face
 
-none_later : (face first : ℕ) (tables : List SpanRanges) (from to : ℕ) → face < first → AreOverFaces first tables
-    → AreNeighbours from tables to → held_on face (held_in tables) ≡ []
-none_later face first [] from to lt over are = refl
-none_later face first (t ∷ ts) from to lt over are =
-    let own = none_kept face first t.held (λ e. omega arith) (held_lie_on first t over.0 are.1) in
-    both_kept face t.held (held_in ts)
-    ∙ ap (λ xs. xs ++ held_on face (held_in ts)) own
-    ∙ none_later face (first + 1) ts t.to to (omega arith) over.1 are.2
+parted : {X : Type 0} (n : ℕ) (xs : List X) → take n xs ++ drop n xs ≡ xs
+parted zero xs = refl
+parted (suc n) [] = refl
+parted (suc n) (x ∷ xs) = ap (λ ys. x ∷ ys) (parted n xs)
 
--- what each table holds is what all hold on its face
-pub own_held : (first i face : ℕ) (tables : List SpanRanges) (d : SpanRanges) (from to : ℕ) → face ≡ first + i → i < length tables
-    → AreOverFaces first tables → AreNeighbours from tables to → (get_or tables i d).held ≡ held_on face (held_in tables)
-own_held first i face [] d from to e lt over are = absurd (omega arith)
-own_held first zero face (t ∷ ts) d from to e lt over are =
-    let is : face ≡ first = omega arith in
-    let on = held_lie_on first t over.0 are.1 in
-    let later = none_later face (first + 1) ts t.to to (omega arith) over.1 are.2 in
-    let own = no_pair (held_on face t.held) ∙ ap (λ f. held_on f t.held) is ∙ all_kept first t.held on in
-    sym (both_kept face t.held (held_in ts) ∙ ap (λ xs. held_on face t.held ++ xs) later ∙ own)
-own_held first (suc i) face (t ∷ ts) d from to e lt over are =
-    let none = none_kept face first t.held (λ same. omega arith) (held_lie_on first t over.0 are.1) in
-    let rest = own_held (first + 1) i face ts d t.to to (omega arith) (omega arith) over.1 are.2 in
-    rest ∙ sym (both_kept face t.held (held_in ts) ∙ ap (λ xs. xs ++ held_on face (held_in ts)) none)
+held_append : (xs ys : List SpanRanges) → held_in (xs ++ ys) ≡ held_in xs ++ held_in ys
+held_append xs ys = flat_map-append (λ (t : SpanRanges). t.held) xs ys
 
--- what the tables of the six faces hold is what all hold, face by face
-pub own_parts : (tables : List SpanRanges) (to : ℕ) → length tables ≡ 6 → AreOverFaces 0 tables → AreNeighbours 1 tables to
-    → map (λ t. t.held) tables ≡ map (λ face. held_on face (held_in tables)) faces
-own_parts [] to six over are = absurd (omega arith)
-own_parts (a ∷ []) to six over are = absurd (omega arith)
-own_parts (a ∷ b ∷ []) to six over are = absurd (omega arith)
-own_parts (a ∷ b ∷ c ∷ []) to six over are = absurd (omega arith)
-own_parts (a ∷ b ∷ c ∷ d ∷ []) to six over are = absurd (omega arith)
-own_parts (a ∷ b ∷ c ∷ d ∷ e ∷ []) to six over are = absurd (omega arith)
-own_parts (a ∷ b ∷ c ∷ d ∷ e ∷ f ∷ []) to six over are =
-    let all : List SpanRanges = a ∷ b ∷ c ∷ d ∷ e ∷ f ∷ [] in
-    let own : (i : ℕ) → i < 6 → (get_or all i a).held ≡ held_on i (held_in all) =
-    λ i lt. own_held 0 i i all a 1 to (omega arith) (omega arith) over are in
-    six_parts (held_in all) a.held b.held c.held d.held e.held f.held (own 0 (omega arith)) (own 1 (omega arith)) (own 2 (omega arith))
-    (own 3 (omega arith)) (own 4 (omega arith)) (own 5 (omega arith))
-own_parts (a ∷ b ∷ c ∷ d ∷ e ∷ f ∷ g ∷ ts) to six over are = absurd (omega arith)
+of_three : (face : ℕ) (xs ys zs : Collection) → held_on face xs ≡ [] → held_on face ys ≡ ys → held_on face zs ≡ []
+    → ys ≡ held_on face (xs ++ (ys ++ zs))
+of_three face xs ys zs none all later =
+    sym (
+    both_kept face xs (ys ++ zs)
+    ∙ ap (λ ks. ks ++ held_on face (ys ++ zs)) none
+    ∙ both_kept face ys zs
+    ∙ ap₂ (λ (one other : Collection). one ++ other) all later
+    ∙ append-nil ys
+    )
+
+-- what the parts over a face's span hold is what all hold on the face
+pub held_between : (face a n from : ℕ) (parts : List SpanRanges) (to : ℕ) → AreNeighbours from parts to → a + n ≤ length parts
+    → cut a from parts ≡ face_begin face → cut (a + n) from parts ≡ face_begin (face + 1)
+    → held_in (take n (drop a parts)) ≡ held_on face (held_in parts)
+held_between face a n from parts to are le begin end =
+    let xs = take a parts in
+    let ys = take n (drop a parts) in
+    let zs = drop n (drop a parts) in
+    let whole : xs ++ (ys ++ zs) ≡ parts = ap (λ ts. xs ++ ts) (parted n (drop a parts)) ∙ parted a parts in
+    let held : held_in xs ++ (held_in ys ++ held_in zs) ≡ held_in parts =
+    ap (λ hs. held_in xs ++ hs) (sym (held_append ys zs)) ∙ sym (held_append xs (ys ++ zs)) ∙ ap held_in whole in
+    let first = subst (EndBy (held_in xs)) begin (all_end from xs (cut a from parts) (front a from parts to are (omega arith))) in
+    let own = between a n from parts to are le in
+    let own_begin = subst (BeginFrom (held_in ys)) begin (all_begin (cut a from parts) ys (cut (a + n) from parts) own) in
+    let own_end = subst (EndBy (held_in ys)) end (all_end (cut a from parts) ys (cut (a + n) from parts) own) in
+    let later = subst (λ ts. BeginFrom (held_in ts) (cut (a + n) from parts)) (dropped a n parts) (all_begin (cut (a + n) from parts) (drop (a + n) parts) to (back (a + n) from parts to are le)) in
+    of_three face (held_in xs) (held_in ys) (held_in zs) (none_before face (held_in xs) first) (all_kept face (held_in ys) own_begin own_end)
+    (none_after face (held_in zs) (subst (BeginFrom (held_in zs)) end later))
+    ∙ ap (held_on face) held
+  where
+    none_dropped : (n : ℕ) → drop n (let none : List SpanRanges = [] in none) ≡ []
+    none_dropped zero = refl
+    none_dropped (suc n) = refl
+
+    dropped : (a n : ℕ) (ts : List SpanRanges) → drop (a + n) ts ≡ drop n (drop a ts)
+    dropped zero n ts = let e : 0 + n ≡ n = omega arith in ap (λ k. drop k ts) e
+    dropped (suc a) n [] = none_dropped (suc a + n) ∙ sym (none_dropped n)
+    dropped (suc a) n (t ∷ ts) = let e : suc a + n ≡ suc (a + n) = omega arith in ap (λ k. drop k (t ∷ ts)) e ∙ dropped a n ts

@@ -1,8 +1,9 @@
 -- Blocks of a list, one after the other.
-use Rattle.std.proofs.Common.{◌≡◌, ℕ, ◌+◌, ◌-◌, ◌<◌, ◌≤◌, ◌++◌, length, min, take, drop, sym, ap, ◌∙◌, arith}
+use Rattle.std.proofs.Common.{◌≡◌, ℕ, ◌+◌, ◌-◌, ◌<◌, ◌≤◌, ◌++◌, length, min, take, drop, sym, ap, ◌∙◌, subst, arith}
 use Rattle.std.proofs.Math.Seq.{take-add}
 use Rattle.std.proofs.lemmas.List.{drop-drop, drop-take, length-drop, length-take-le, take-take}
-use Rattle.s2ix_bag_pairs.specs.Collection.{Collection}
+use Rattle.s2ix_bag_pairs.specs.Collection.{Collection, IsCollection}
+use Rattle.s2ix_bag_pairs.proofs.CutAtRank.{collection_drop, collection_take}
 
 -- a block of a part of a list is a block of the list
 of_part : (hs part : Collection) (before a k : ℕ) → a + k ≤ length part → take (length part) (drop before hs) ≡ part
@@ -53,3 +54,17 @@ copied_more hs part held more from to place before end was short first last is o
           ∙ with_block hs part from m before a k (omega arith) within own
           ∙ ap (λ (n : ℕ). take n (drop from hs)) number;
     }
+
+-- ---- pairs between two places
+
+pub between_rises : (hs held : Collection) (from n : ℕ) → IsCollection hs → held ≡ take n (drop from hs) → IsCollection held
+between_rises hs held from n rises is =
+    subst (λ (xs : Collection). IsCollection xs) (sym is) (collection_take n 0 (drop from hs) (collection_drop from 0 hs rises))
+
+pub between_few : (hs held : Collection) (from to : ℕ) → length hs ≤ 1000000 → from ≤ to → to ≤ length hs
+    → held ≡ take (to - from) (drop from hs) → length held ≤ 1000000
+between_few hs held from to few rises within is =
+    let left = length-drop from hs in
+    let count : length (take (to - from) (drop from hs)) ≡ to - from = length-take-le (to - from) (drop from hs) (omega arith) in
+    let long = ap (λ (xs : Collection). length xs) is in
+    omega arith

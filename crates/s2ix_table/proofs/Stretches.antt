@@ -1,4 +1,4 @@
--- The ranges over a face, read by where they begin.
+-- The ranges over a face, and those of a part by where they begin.
 use Rattle.std.proofs.Common.{◌≡◌, ℕ, suc, ◌+◌, ◌-◌, ◌<◌, ◌≤◌, List, [], ◌∷◌, length, map, take, drop, get_or, slice_index_or, refl, sym, ◌∙◌, ap, arith, add-one, subst}
 use Rattle.std.proofs.Math.Seq.{take-length}
 use Rattle.std.proofs.lemmas.List.{get_or-map, length-map}
@@ -6,54 +6,72 @@ use Rattle.s2ix_bag_pairs.specs.Collection.{Collection}
 use Rattle.s2ix_table_walk.specs.Table.{Range, range_at, IsTableOver, leaf_end}
 use Rattle.s2ix_table_walk.specs.FaceWindows.{HaveFace}
 use Rattle.s2ix_table_walk.specs.Stretches.{IsStretch}
-use Rattle.s2ix_table_spans.specs.SpanTable.{SpanRanges, IsSpanTable}
+use Rattle.s2ix_table_spans.specs.SpanTable.{SpanRanges}
 use Rattle.s2ix_table.specs.declared.offset.Offset.{Offset}
-use Rattle.s2ix_table.specs.FaceSpans.{no_table, table_of, IsOverFace}
+use Rattle.s2ix_table.specs.FaceSpans.{face_begin, no_table, table_of}
 use Rattle.s2ix_table.specs.Joined.{held_in, joined_ranges}
 use Rattle.s2ix_table.specs.Whole.{AreJoined}
+use Rattle.s2ix_table.proofs.Cuts.{cut, cut_is, cut_to}
+use Rattle.s2ix_table.proofs.FirstParts.{first_of_face, face_cut, faces_rise}
 use Rattle.s2ix_table.proofs.Neighbours.{joined_table}
-use Rattle.s2ix_table.proofs.Reading.{no_offset, placed, face_over, face_known}
+use Rattle.s2ix_table.proofs.Reading.{no_offset, placed, places_rise, known}
 use Rattle.s2ix_table.proofs.Placing.{IsPart}
 use Rattle.s2ix_table.proofs.Offsets.{high_of}
 
 -- ---- all ranges over a face
 
-window_part : (whole : List Range) (span : SpanRanges) (offset : Offset) (high face : ℕ) → IsPart whole span.ranges offset high
-    → IsOverFace face span → IsSpanTable span → HaveFace whole face offset.place (length span.ranges)
-window_part whole span offset high face part over is =
-    let some = part.some in
-    let by = part.by in
-    let start = part.start in
-    let from = over.from in
-    let first = is.table.first in
+-- from where one part begins to the end of another
+window_between : (whole first last : List Range) (offset offset_last : Offset) (high high_last face : ℕ) → IsPart whole first offset high
+    → IsPart whole last offset_last high_last → offset.place ≤ offset_last.place → (range_at first 0).start ≡ face_begin face
+    → ((k : ℕ) → k + 1 ≡ length last → (range_at last k).limit ≡ face_begin (face + 1))
+    → HaveFace whole face offset.place (offset_last.place + length last - offset.place)
+window_between whole first last offset offset_last high high_last face a b le begins ends =
+    let some = b.some in
+    let within = b.within in
+    let by = a.by in
+    let start = a.start in
     record {
       some = omega arith;
-      within = part.within;
+      within = omega arith;
       begins = omega arith;
       ends = λ k e.
-          let own : ℕ = k - offset.place in
-          let last : own + 1 ≡ length span.ranges = omega arith in
-          let at : offset.place + own ≡ k = omega arith in
-          let to = part.to own (omega arith) in
-          let end = is.table.last own last in
-          let face_end = over.to in
+          let own : ℕ = k - offset_last.place in
+          let at : offset_last.place + own ≡ k = omega arith in
+          let to = b.to own (omega arith) in
+          let end = ends own (omega arith) in
           let same = ap (λ n. (range_at whole n).limit) at in
           omega arith;
     }
 
-pub face_window : (tables : List SpanRanges) (offsets : List Offset) (count face : ℕ) (span : SpanRanges) → AreJoined tables offsets count
-    → face < 6 → span ≡ table_of tables face
-    → HaveFace (joined_ranges tables) face (get_or offsets face no_offset).place (length span.ranges)
-face_window tables offsets count face span are lt same =
-    let all = joined_ranges tables in
-    let offset = get_or offsets face no_offset in
-    let part = placed tables offsets count face no_table no_offset are lt in
-    let over = face_over tables offsets count face are lt in
-    let is = face_known tables offsets count face are lt in
-    let have = window_part all (table_of tables face) offset (high_of offsets face count) face part over is in
-    subst (λ (s : SpanRanges). HaveFace all face offset.place (length s.ranges)) (sym same) have
+pub face_window : {parts : List SpanRanges} {starts : List ℕ} {offsets : List Offset} {faces : List ℕ} {count : ℕ} (face last end : ℕ) (span : SpanRanges) → AreJoined parts starts offsets faces count → face < 6 → last + 1 ≡ first_of_face faces (face + 1)
+    → span ≡ table_of parts last → end ≡ (get_or offsets last no_offset).place + length span.ranges
+    → ((get_or offsets (first_of_face faces face) no_offset).place ≤ end)
+    × HaveFace (joined_ranges parts) face (get_or offsets (first_of_face faces face) no_offset).place
+    (end - (get_or offsets (first_of_face faces face) no_offset).place)
+face_window {parts} {starts} {offsets} {faces} {count} face last end span are lt is same ends =
+    let all = joined_ranges parts in
+    let first = first_of_face faces face in
+    let rises = faces_rise face are lt in
+    let one = face_cut face are (omega arith) in
+    let next = face_cut (face + 1) are (omega arith) in
+    let within : last < length parts = omega (arith, next.0) in
+    let first_part = placed first no_table no_offset are (omega arith) in
+    let last_part = placed last no_table no_offset are within in
+    let le = places_rise first last are (omega arith) within in
+    let first_is = known first are (omega arith) in
+    let last_is = known last are within in
+    let begins = first_is.table.first in
+    let begin = cut_is first 1 parts leaf_end no_table are.neighbours (omega arith) in
+    let to = cut_to last 1 parts leaf_end no_table are.neighbours within in
+    let cuts = ap (λ n. cut n 1 parts) (let e : suc last ≡ first_of_face faces (face + 1) = omega arith in e) in
+    let have =
+    window_between all (table_of parts first).ranges (table_of parts last).ranges (get_or offsets first no_offset) (get_or offsets last no_offset)
+    (high_of offsets first count) (high_of offsets last count) face first_part last_part le (omega (arith, one.1))
+    (λ k e. let limit = last_is.table.last k e in omega (arith, next.1)) in
+    let size = ends ∙ ap (λ (s : SpanRanges). (get_or offsets last no_offset).place + length s.ranges) same in
+    (omega arith, subst (λ n. HaveFace all face (get_or offsets first no_offset).place (n - (get_or offsets first no_offset).place)) (sym size) have)
 
--- ---- those between the first and the last one
+-- ---- those between the first and the last one of a part
 
 shifted : (starts : List ℕ) (k : ℕ) → slice_index_or (drop 1 starts) k 0 ≡ slice_index_or starts (suc k) 0
 shifted [] k = refl
@@ -93,22 +111,21 @@ stretch_part hs whole part offset high starts t is same =
     length-drop [] more = absurd (omega arith)
     length-drop (x ∷ xs) more = omega arith
 
-pub face_stretch : (tables : List SpanRanges) (offsets : List Offset) (count face : ℕ) (span : SpanRanges) (starts : List ℕ)
-    → AreJoined tables offsets count → face < 6 → span ≡ table_of tables face → starts ≡ map (λ (r : Range). r.start) span.ranges
-    → IsStretch (joined_ranges tables) ((get_or offsets face no_offset).place + 1) (length starts - 2) (drop 1 starts)
-face_stretch tables offsets count face span starts are lt same is =
-    let part = placed tables offsets count face no_table no_offset are lt in
-    let own = is ∙ ap (λ (s : SpanRanges). map (λ (r : Range). r.start) s.ranges) same in
-    let table = joined_table 1 tables leaf_end (omega arith) are.neighbours in
-    stretch_part (held_in tables) (joined_ranges tables) (table_of tables face).ranges (get_or offsets face no_offset)
-    (high_of offsets face count) starts table part own
+pub part_stretch : {parts : List SpanRanges} {starts : List ℕ} {offsets : List Offset} {faces : List ℕ} {count : ℕ} (part : ℕ) (span : SpanRanges) (own : List ℕ) → AreJoined parts starts offsets faces count → part < length parts → span ≡ table_of parts part
+    → own ≡ map (λ (r : Range). r.start) span.ranges
+    → IsStretch (joined_ranges parts) ((get_or offsets part no_offset).place + 1) (length own - 2) (drop 1 own)
+part_stretch {parts} {starts} {offsets} {faces} {count} part span own are lt same is =
+    let at = placed part no_table no_offset are lt in
+    let begins = is ∙ ap (λ (s : SpanRanges). map (λ (r : Range). r.start) s.ranges) same in
+    let table = joined_table 1 parts leaf_end (omega arith) are.neighbours in
+    stretch_part (held_in parts) (joined_ranges parts) (table_of parts part).ranges (get_or offsets part no_offset)
+    (high_of offsets part count) own table at begins
 
--- each face has a range
-pub some_starts : (tables : List SpanRanges) (offsets : List Offset) (count face : ℕ) (span : SpanRanges) (starts : List ℕ)
-    → AreJoined tables offsets count → face < 6 → span ≡ table_of tables face → starts ≡ map (λ (r : Range). r.start) span.ranges
-    → 1 ≤ length starts
-some_starts tables offsets count face span starts are lt same is =
-    let some = (placed tables offsets count face no_table no_offset are lt).some in
+-- each part has a range
+pub some_starts : {parts : List SpanRanges} {starts : List ℕ} {offsets : List Offset} {faces : List ℕ} {count : ℕ} (part : ℕ) (span : SpanRanges) (own : List ℕ) → AreJoined parts starts offsets faces count → part < length parts → span ≡ table_of parts part
+    → own ≡ map (λ (r : Range). r.start) span.ranges → 1 ≤ length own
+some_starts {parts} {starts} {offsets} {faces} {count} part span own are lt same is =
+    let some = (placed part no_table no_offset are lt).some in
     let many = ap length is ∙ length-map span.ranges (λ (r : Range). r.start) in
     let ranges = ap (λ (s : SpanRanges). length s.ranges) same in
     omega arith

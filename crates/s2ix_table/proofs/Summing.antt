@@ -174,6 +174,16 @@ refused_at change hs w face before between after within some r own =
     after (omega arith) (omega (arith, p, all, up, most, more))
     (both_read (sum_below change hs face) (sum_below change hs face + face * w) 0 (n + w) before between after r.reads own)
 
+-- what was read of the faces before one, if a later step was refused
+pub refused_by : (change : List Entry) (hs : Collection) (w face before after : ℕ) → face ≤ 6 → AreReadBelow change hs w face before after
+    → HasRead 0 (changed_count change hs + 6 * w) before after
+refused_by change hs w face before after le r =
+    let all = all_summed change hs in
+    let up = sum_rises change hs face 6 le in
+    let most = mul-le-mul_right w le in
+    read_within (sum_below change hs face) (sum_below change hs face + face * w) 0 (changed_count change hs + 6 * w) before after
+    (omega arith) (omega (arith, all, up, most)) r.reads
+
 -- ---- what is kept of each face, with that of the faces before one renewed
 
 mapped_at : {A : Type 0} (f : ℕ → A) (n : ℕ) (d : A) → n < 6 → get_or (map f faces) n d ≡ f n

@@ -36,7 +36,7 @@ with_stays : (face : ℕ) (p : Pair) (n : ℕ) (hs : Collection) → (face_of p.
 with_stays face p zero hs ne = refl
 with_stays face p (suc n) hs ne = off_face face (record { pair = p; count = suc n }) hs ne
 
-set_stays : (face : ℕ) (p : Pair) (n : ℕ) (hs : Collection) → (face_of p.cell ≡ face → ⊥)
+pub set_stays : (face : ℕ) (p : Pair) (n : ℕ) (hs : Collection) → (face_of p.cell ≡ face → ⊥)
     → held_on face (set_count p n hs) ≡ held_on face hs
 set_stays face p n [] ne = with_stays face p n [] ne
 set_stays face p n (h ∷ hs) ne =

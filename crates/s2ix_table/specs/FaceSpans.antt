@@ -1,5 +1,5 @@
--- The tables of faces, and the faces' spans of leaves.
-use Rattle.std.specs.Prelude.{◌≡◌, ℕ, ◌+◌, List, [], ◌∷◌, map, slice_index_or, Contains}
+-- The spans of faces, and the parts of a table over them.
+use Rattle.std.specs.Prelude.{◌≡◌, ℕ, ◌+◌, ◌<◌, List, [], length, map, slice_index_or, Contains}
 use Rattle.std.specs.Arc.{arc_value}
 use Rattle.std.specs.declared.sync.Arc.{Arc}
 use Rattle.s2id_core.specs.CellId.{face_of}
@@ -17,19 +17,29 @@ pub record IsOverFace (face : ℕ) (table : SpanRanges) : Type 0 where
   pub from : table.from ≡ face_begin face
   pub to : table.to ≡ face_begin (face + 1)
 
--- tables over the spans of faces, from this one on
-abbrev pub AreOverFaces : ℕ → List SpanRanges → Type 0
-AreOverFaces face [] = Unit {0}
-AreOverFaces face (t ∷ ts) = IsOverFace face t × AreOverFaces (face + 1) ts
-
 -- what shared tables show
 abbrev pub spans_of : {Z : Type 0} → List (Arc SpanRanges Z) → List SpanRanges
 spans_of tables = map arc_value tables
 
--- what stands for the table of no face
+-- what stands for the table of no part
 abbrev pub no_table : SpanRanges
 no_table = record { held = []; from = 0; to = 0; ranges = [] }
 
--- the table of a face among those of all, from face 0 on
+-- the table of a part, by the part's number
 abbrev pub table_of : List SpanRanges → ℕ → SpanRanges
-table_of tables face = slice_index_or tables face no_table
+table_of parts part = slice_index_or parts part no_table
+
+-- the leaf numbers from which on the parts have their spans
+abbrev pub starts_of : List SpanRanges → List ℕ
+starts_of parts = map (λ t. t.from) parts
+
+-- each face begins a part
+abbrev pub BeginFaces : List SpanRanges → Type 0
+BeginFaces parts = (face : ℕ) → face < 6 → Contains (starts_of parts) (face_begin face)
+
+-- for each face the number of its first part, and after the last face how many parts there are
+pub record AreFirstParts (starts faces : List ℕ) : Type 0 where
+  pub seven : length faces ≡ 7
+  pub listed : (face : ℕ) → face < 6 → slice_index_or faces face 0 < length starts
+  pub begins : (face : ℕ) → face < 6 → slice_index_or starts (slice_index_or faces face 0) 0 ≡ face_begin face
+  pub end : slice_index_or faces 6 0 ≡ length starts

@@ -17,6 +17,10 @@ held_on face held = filter (λ h. face_of h.pair.cell == face) held
 abbrev pub has_entry_on : List Entry → ℕ → Bool
 has_entry_on change face = list_any (λ e. face_of e.pair.cell == face) change
 
+-- the entries of a change on a face, in their order
+abbrev pub entries_on : ℕ → List Entry → List Entry
+entries_on face change = filter (λ e. face_of e.pair.cell == face) change
+
 -- the held pairs on a face, if a change has an entry on it
 abbrev pub changed_on : List Entry → Collection → ℕ → Option Collection
 changed_on change held face = if has_entry_on change face then Some (held_on face held) else None

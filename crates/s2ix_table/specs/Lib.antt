@@ -6,6 +6,7 @@ pub use Rattle.s2ix_table_walk.specs.Table
 pub use Rattle.s2ix_table_walk.specs.Calls
 pub use Rattle.s2ix_table_walk.specs.Costs
 pub use Rattle.s2ix_table_walk.specs.Places
+pub use Rattle.s2ix_table_walk.specs.Shown
 pub use Rattle.s2ix_table_walk.specs.Stretches
 pub use Rattle.s2ix_table_spans.specs.Once
 pub mod Reading
@@ -14,7 +15,8 @@ pub mod ReadingLaws
 pub mod Joined
 pub mod Offsets
 pub mod FaceSpans
-pub mod FacePlaces
+pub mod PartPlaces
 pub mod Whole
 pub mod OneProof
-pub mod SixTables
+pub mod Parts
+pub mod PartsOf

@@ -1,8 +1,9 @@
 -- Where the ranges of each table stand among the joined ones.
-use Rattle.std.specs.Prelude.{◌≡◌, ℕ, suc, ◌+◌, ◌-◌, ◌<◌, ◌≤◌, ◌==◌, ◌&&◌, if◌then◌else◌, Bool, List, [], ◌∷◌, length, map, slice_index_or}
+use Rattle.std.specs.Prelude.{ℕ, ◌+◌, ◌-◌, ◌<◌, ◌==◌, ◌&&◌, if◌then◌else◌, Bool, List, [], ◌∷◌, length, map, slice_index_or}
 use Rattle.s2ix_table_walk.specs.Table.{Range, range_at}
 use Rattle.s2ix_table_spans.specs.SpanTable.{SpanRanges}
 use Rattle.s2ix_table_spans.specs.Starts.{IsLastStart}
+use Rattle.s2ix_table.specs.FaceSpans.{table_of}
 use Rattle.s2ix_table.specs.Joined.{is_nil}
 use Rattle.s2ix_table.specs.declared.offset.Offset.{Offset}
 
@@ -34,26 +35,16 @@ offsets_of tables = offsets_from (record { place = 0; start = 1 }) tables
 abbrev pub places_of : List Offset → List ℕ
 places_of offsets = map (λ (s : Offset). s.place) offsets
 
--- the place among all of a range that has this place of its own in a face's table
+-- the place among all of a range that has this place of its own in a part
 abbrev pub place_on : List Offset → ℕ → ℕ → ℕ
-place_on offsets face own = slice_index_or (places_of offsets) face 0 + own
+place_on offsets part own = slice_index_or (places_of offsets) part 0 + own
 
--- a face, 0 to 5, has one of `count` ranges at a place of its own: the face's offset is the last one that is not after the range
-pub record HasOwn (offsets : List Offset) (count face own : ℕ) : Type 0 where
-  pub six : face < 6
-  pub last : IsLastStart (places_of offsets) (place_on offsets face own) face
-  pub within : place_on offsets face own < count
+-- a part has a range at this place of its own
+pub record HasRange (parts : List SpanRanges) (part own : ℕ) : Type 0 where
+  pub listed : part < length parts
+  pub within : own < length (table_of parts part).ranges
 
--- six offsets, no place above the next one
-pub record AreInOrder (offsets : List Offset) : Type 0 where
-  pub six : length offsets ≡ 6
-  pub rise : (i j : ℕ) → j ≡ suc i → j < 6 → slice_index_or (places_of offsets) i 0 ≤ slice_index_or (places_of offsets) j 0
-
--- at each of six offsets: the place after its first range, and how many of `count` ranges are there before the last one up to the next offset,
--- if any
-pub record AreInner (offsets : List Offset) (inner_from inner : List ℕ) (count : ℕ) : Type 0 where
-  pub six_after : length inner_from ≡ 6
-  pub six : length inner ≡ 6
-  pub after : (i : ℕ) → i < 6 → slice_index_or inner_from i 0 ≡ slice_index_or (places_of offsets) i 0 + 1
-  pub apart : (i j : ℕ) → j ≡ suc i → i < 6
-      → slice_index_or inner i 0 ≡ slice_index_or (places_of offsets) j count - slice_index_or (places_of offsets) i 0 - 2
+-- a part has one of `count` ranges at this place of its own: the part's offset is the last one that is not after the range
+pub record HasOwn (offsets : List Offset) (count part own : ℕ) : Type 0 where
+  pub last : IsLastStart (places_of offsets) (place_on offsets part own) part
+  pub within : place_on offsets part own < count

@@ -5,7 +5,7 @@ ghost use Rattle.s2ix_bag_pairs.specs.OneProof.{IsCollection-prop};
 use crate::pair_reader::PairReader;
 use s2id_core::OutOfMemory;
 use s2ix_bag_changes::Bag;
-use s2ix_bag_lists::{FlatHeld, HeldList};
+use s2ix_bag_lists::{FlatHeld, HeldParts};
 use s2ix_bag_pairs::Held;
 use std::alloc::Global;
 
@@ -14,9 +14,9 @@ use std::alloc::Global;
 pub struct BagReader<'a> {
     bag: &'a Bag,
     len: usize,
-    // how many pairs stand before those of the face that was read last
+    // how many pairs stand before the part that was read last
     before: usize,
-    // the pairs of that face; none before the first read
+    // the pairs of that part; none before the first read
     own: &'a [FlatHeld],
     reads: u64,
     ghost counted: { len ≡ length bag.now.held },
@@ -42,21 +42,21 @@ impl<'a> BagReader<'a> {
     }
 
     // The pairs from one place to before another: the bag's own list if they are all those of a face, else a copy.
-    fn listed(&self, alloc: Global, from: usize, to: usize) -> Result<HeldList, OutOfMemory>
+    fn listed(&self, alloc: Global, from: usize, to: usize) -> Result<HeldParts, OutOfMemory>
         requires rises { from ≤ to }
         requires within { to ≤ length self.now.bag.now.held }
         ensures { IfOk result (λ held. held ≡ take (to - from) (drop from self.now.bag.now.held)) }
     {
         if from < to {
-            let (before, list) = self.bag.list_at(from);
-            if before == from && list.as_slice().len() == to - from {
+            let (before, list) = self.bag.face_at(from);
+            if before == from && list.len() == to - from {
                 return Ok(list.clone()?);
             }
         }
-        HeldList::new(alloc, self.copied(alloc, from, to)?)
+        HeldParts::new(alloc, &self.copied(alloc, from, to)?)
     }
 
-    // A copy of the pairs from one place to before another: a block of each face between them, in one growth.
+    // A copy of the pairs from one place to before another: a block of each part between them, in one growth.
     fn copied(&self, alloc: Global, from: usize, to: usize) -> Result<Vec<FlatHeld>, OutOfMemory>
         requires rises { from ≤ to }
         requires within { to ≤ length self.now.bag.now.held }
@@ -65,10 +65,11 @@ impl<'a> BagReader<'a> {
         let mut held = Vec::with_capacity(alloc, to - from)?;
         let mut place = from;
         while place < to {
-            let (before, own) = self.bag.face_at(place);
-            let part = &own[place - before..own.len().min(to - before)];
-            held.extend_from_slice(part)?;
-            place += part.len();
+            let (before, part) = self.bag.part_at(place);
+            let part = part.as_slice();
+            let block = &part[place - before..part.len().min(to - before)];
+            held.extend_from_slice(block)?;
+            place += block.len();
         }
         Ok(held)
     }
@@ -87,14 +88,14 @@ impl PairReader for BagReader<'_> {
 
     fn read(&mut self, k: usize) -> Held {
         self.reads = self.reads.saturating_add(1);
-        // a place before the face at hand is far after it too
+        // a place before the part at hand is far after it too
         if let Some(held) = self.own.get(k.wrapping_sub(self.before)) {
             return held.held();
         }
-        let (before, own) = self.bag.face_at(k);
+        let (before, part) = self.bag.part_at(k);
         self.before = before;
-        self.own = own;
-        own[k - before].held()
+        self.own = part.as_slice();
+        part.at(k - before)
     }
 
     fn read_between(
@@ -102,7 +103,7 @@ impl PairReader for BagReader<'_> {
         alloc: Global,
         from: usize,
         to: usize,
-    ) -> Result<HeldList, OutOfMemory> {
+    ) -> Result<HeldParts, OutOfMemory> {
         let held = self.listed(alloc, from, to)?;
         self.reads = self.reads.saturating_add((to - from) as u64);
         Ok(held)

@@ -1,3 +1,4 @@
+ghost use Rattle.s2ix_table_walk.specs.Shown.{one_border};
 ghost use Rattle.std.specs.Prelude.{◌≡◌, ◌≤◌, IfOk, length};
 ghost use Rattle.s2ix_bag_pairs.specs.Collection.{IsCollection};
 ghost use Rattle.s2ix_bag_pairs.specs.OneProof.{IsCollection-prop};
@@ -51,6 +52,8 @@ impl RangeTable for ChainTable {
 
     ghost is_table = { λ t. t.table };
 
+    ghost are_borders = { λ t. one_border t.table.some };
+
     ghost few = { λ t. t.few };
 
     fn build(alloc: Global, bag: &Bag) -> Result<Self, OutOfMemory> {
@@ -72,6 +75,12 @@ impl RangeTable for ChainTable {
     #[inline]
     fn first(&self, k: usize) -> Option<u32> {
         self.span.first(k)
+    }
+
+    // it is one part
+    #[inline]
+    fn border(&self, _m: usize) -> usize {
+        0
     }
 
     #[inline]

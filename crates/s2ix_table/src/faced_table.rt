@@ -4,69 +4,82 @@ ghost use Rattle.s2ix_bag_pairs.specs.Change.{changed};
 ghost use Rattle.s2ix_bag_pairs.specs.Collection.{IsCollection};
 ghost use Rattle.s2ix_bag_pairs.specs.OneProof.{IsCollection-prop};
 ghost use Rattle.s2ix_table_spans.specs.Once.{KeepsOnce};
-ghost use Rattle.s2ix_table.specs.FaceSpans.{AreOverFaces, spans_of, table_of};
-ghost use Rattle.s2ix_table.specs.Joined.{held_in, joined_ranges};
-ghost use Rattle.s2ix_table.specs.OneProof.{counted-prop, joined_once-prop};
-ghost use Rattle.s2ix_table.specs.FacePlaces.{chain_from};
-ghost use Rattle.s2ix_table.specs.Offsets.{HasOwn, place_on};
-ghost use Rattle.s2ix_table.specs.Whole.{AreCounted};
-ghost use Rattle.s2ix_table_walk.specs.Table.{range_at, IsRangeTable};
-ghost use Rattle.s2ix_table.specs.Faces.{changed_count};
+ghost use Rattle.s2ix_table_walk.specs.FaceWindows.{face_begin};
 ghost use Rattle.s2ix_table_walk.specs.Places.{LeadsTo};
+ghost use Rattle.s2ix_table_walk.specs.Shown.{AreBorders};
+ghost use Rattle.s2ix_table_walk.specs.Table.{range_at, IsRangeTable, leaf_end};
+ghost use Rattle.s2ix_table.specs.Faces.{changed_count, held_on};
+ghost use Rattle.s2ix_table.specs.FaceSpans.{BeginFaces, spans_of, table_of};
+ghost use Rattle.s2ix_table.specs.Joined.{held_in, joined_ranges, AreNeighbours};
+ghost use Rattle.s2ix_table.specs.Offsets.{HasOwn, HasRange, place_on, places_of};
+ghost use Rattle.s2ix_table.specs.OneProof.{joined-prop, joined_once-prop};
+ghost use Rattle.s2ix_table.specs.PartPlaces.{chain_from};
+ghost use Rattle.s2ix_table.specs.Whole.{AreJoined};
 
 use crate::bag_reader::BagReader;
-use crate::face_place::FacePlace;
 use crate::offset::{Offset, offset_by};
 use crate::pair_reader::PairReader;
+use crate::part_place::PartPlace;
 use crate::shares_chains::SharesChains;
-use crate::tables::{read_tables, tables_after};
+use crate::starts::{first_parts, start_by};
+use crate::tables::{read_tables, share, tables_after};
 use s2id_core::{CellId, FACES, OutOfMemory};
 use s2ix_bag_changes::{Bag, Change};
 use s2ix_bag_pairs::Held;
 use s2ix_table_queries::{RangeTable, Stretch};
 use s2ix_table_spans::SpanTable;
 use s2ix_table_walk::{RangeRow, Window};
-use std::alloc::{AllocError, Global};
+use std::alloc::Global;
 use std::sync::Arc;
 
-/// A range table that keeps one table with shared chains for each face, and shares these with the tables that are made of it by
-/// [`FacedTable::rebuilt`]. Empty ranges that meet at the end of a face are one. Building takes O(n) for n pairs. S2 builds its
-/// whole index again.
+/// A range table in parts. Each part is a table with shared chains over some leaves of one face, and the tables that are made of this one
+/// by [`FacedTable::rebuilt`] share its parts. Empty ranges that meet where two parts do are one. Building takes O(n) for n pairs. S2
+/// builds its whole index again.
+///
+/// Costs are in n, the number of the table's pairs, and p, the number of its parts.
 #[derive(Debug, Drop)]
 pub struct FacedTable {
-    tables: [Arc<SpanTable>; FACES],
-    offsets: [Offset; FACES],
-    // for each face the place after that of its first range, and how many ranges are from there up to before its last one
-    inner_from: [usize; FACES],
-    inner: [usize; FACES],
-    // how many ranges there are on all faces
+    // neighbours, from the first leaf of face 0 to the last of face 5; each face begins a part
+    parts: Vec<Arc<SpanTable>>,
+    // for each part the place among all of its first range, and the leaf number at which that range begins
+    offsets: Vec<Offset>,
+    // the leaf number at which each part's span begins
+    starts: Vec<u64>,
+    // for each face the number of its first part, and after the last face how many parts there are
+    faces: [usize; FACES + 1],
+    // how many ranges there are
     count: usize,
-    ghost placed: { AreCounted (spans_of tables) offsets inner_from inner count } by { counted-prop (spans_of tables) offsets inner_from inner count },
-    ghost rises: { IsCollection (held_in (spans_of tables)) } by { IsCollection-prop 0 (held_in (spans_of tables)) },
-    ghost few: { length (held_in (spans_of tables)) ≤ 1000000 },
-    ghost table: { IsRangeTable (held_in (spans_of tables)) (joined_ranges (spans_of tables)) },
-    ghost once: { KeepsOnce (chain_from (spans_of tables)) } by { joined_once-prop (spans_of tables) },
+    ghost joined: { AreJoined (spans_of parts.items) starts.items offsets.items faces count } by { joined-prop (spans_of parts.items) starts.items offsets.items faces count },
+    ghost rises: { IsCollection (held_in (spans_of parts.items)) } by { IsCollection-prop 0 (held_in (spans_of parts.items)) },
+    ghost few: { length (held_in (spans_of parts.items)) ≤ 1000000 },
+    ghost table: { IsRangeTable (held_in (spans_of parts.items)) (joined_ranges (spans_of parts.items)) },
+    ghost bordered: { AreBorders (joined_ranges (spans_of parts.items)) (places_of offsets.items) },
+    ghost once: { KeepsOnce (chain_from (spans_of parts.items)) } by { joined_once-prop (spans_of parts.items) },
 }
 
 impl RangeTable for FacedTable {
-    type Place = FacePlace;
+    type Place = PartPlace;
 
-    ghost pairs = { λ t. held_in (spans_of t.tables) };
+    ghost pairs = { λ t. held_in (spans_of t.parts.items) };
 
-    ghost ranges = { λ t. joined_ranges (spans_of t.tables) };
+    ghost ranges = { λ t. joined_ranges (spans_of t.parts.items) };
 
-    ghost chain = { λ t p. chain_from (spans_of t.tables) p };
+    ghost chain = { λ t p. chain_from (spans_of t.parts.items) p };
+
+    ghost borders = { λ t. places_of t.offsets.items };
 
     ghost is_collection = { λ t. t.rises };
 
     ghost is_table = { λ t. t.table };
 
+    ghost are_borders = { λ t. t.bordered };
+
     ghost few = { λ t. t.few };
 
     fn build(alloc: Global, bag: &Bag) -> Result<Self, OutOfMemory> {
         let mut reader = BagReader::new(bag);
-        let tables = read_tables(alloc, &mut reader)?;
-        Ok(FacedTable::together(tables))
+        let parts = read_tables(alloc, &mut reader)?;
+        FacedTable::together(alloc, parts)
     }
 
     #[inline]
@@ -74,45 +87,72 @@ impl RangeTable for FacedTable {
         self.count
     }
 
+    // O(log p).
     #[inline]
     fn range(&self, k: usize) -> RangeRow {
-        let (face, own) = self.own_place(k);
-        self.row_at(face, own)
+        let (part, own) = self.own_place(k);
+        self.row_at(part, own)
     }
 
+    // From the first range of the face's first part to the last one of its last part.
     #[inline]
     fn window(&self, face: u8) -> Window {
         let face = usize::from(face);
+        let first = self.offsets[self.faces[face]].place;
+        let last = self.faces[face + 1] - 1;
+        let end = self.offsets[last].place + self.span(last).range_count();
         Window {
-            first: self.offsets[face].place,
-            size: self.span(face).range_count(),
+            first,
+            size: end - first,
         }
     }
 
-    // The ranges over the face but for the first one, which may begin before it, and the last one, which may end after it. The note is the
-    // face.
+    // The borders are those of the parts on the face.
     #[inline]
-    fn stretch(&self, face: u8) -> Stretch<'_> {
+    fn face_borders(&self, face: u8) -> Window {
         let face = usize::from(face);
-        let span = self.span(face);
-        let starts = span.starts();
+        let first = self.faces[face];
+        Window {
+            first,
+            size: self.faces[face + 1] - first,
+        }
+    }
+
+    #[inline]
+    fn border(&self, m: usize) -> usize {
+        self.offsets[m].place
+    }
+
+    #[inline]
+    fn border_start(&self, m: usize) -> u64 {
+        self.offsets[m].start
+    }
+
+    // The ranges of a part but for the first one, which may begin before it, and the last one, which may end after it. The note is the part's
+    // number.
+    #[inline]
+    fn stretch(&self, m: usize) -> Stretch<'_> {
+        if m >= self.parts.len() {
+            return Stretch::none();
+        }
+        let starts = self.span(m).starts();
         Stretch {
-            first: self.inner_from[face],
+            first: self.offsets[m].place + 1,
             count: starts.len().saturating_sub(2),
             starts: &starts[1..],
-            sample: span.sample(),
-            note: face,
+            note: m,
         }
     }
 
+    // O(log p).
     #[inline]
-    fn first(&self, k: usize) -> Option<FacePlace> {
-        let (face, own) = self.own_place(k);
-        self.first_at(face, own)
+    fn first(&self, k: usize) -> Option<PartPlace> {
+        let (part, own) = self.own_place(k);
+        self.first_at(part, own)
     }
 
     #[inline]
-    fn read_near(&self, k: usize, note: usize) -> (RangeRow, Option<FacePlace>, usize) {
+    fn read_near(&self, k: usize, note: usize) -> (RangeRow, Option<PartPlace>, usize) {
         match self.own_near(k, note) {
             Some(own) => (self.inner_row_at(note, own), self.first_at(note, own), note),
             None => self.read_far(k),
@@ -120,24 +160,27 @@ impl RangeTable for FacedTable {
     }
 
     #[inline]
-    fn held_at(&self, place: FacePlace) -> Held {
-        self.span(place.face).held_at(place.node)
+    fn held_at(&self, place: PartPlace) -> Held {
+        self.span(place.part).held_at(place.node)
     }
 
     #[inline]
-    fn outer(&self, place: FacePlace) -> Option<FacePlace> {
-        let face = place.face;
-        match self.span(face).outer(place.node) {
-            Some(outer) => Some(FacePlace { face, node: outer }),
+    fn outer(&self, place: PartPlace) -> Option<PartPlace> {
+        let part = place.part;
+        match self.span(part).outer(place.node) {
+            Some(outer) => Some(PartPlace { part, node: outer }),
             None => None,
         }
     }
 
-    // O(log n) for n pairs on the leaf's face.
+    // O(log n): a search among the parts of the leaf's face, then one in the part that has the leaf.
     #[inline]
     fn find(&self, leaf: CellId) -> usize {
         let face = usize::from(leaf.face());
-        self.offsets[face].place + self.span(face).find(leaf)
+        let first = self.faces[face];
+        let size = self.faces[face + 1] - first;
+        let part = start_by(&self.starts, leaf.raw(), Window { first, size });
+        self.offsets[part].place + self.span(part).find(leaf)
     }
 }
 
@@ -146,10 +189,11 @@ impl SharesChains for FacedTable {
 }
 
 impl FacedTable {
-    /// The table after a change: `bag` reads the pairs that the change has made of this table's. The tables of the faces on which the
-    /// change has entries are built again, the others are shared. With p pairs on those faces and n in all it reads p to p + 12 *
-    /// digits(n + 1) pairs, for the binary digits of n + 1. O(m + p) besides, for m entries. `OutOfMemory` if a growth is refused; then too
-    /// it has read at most so many.
+    /// The table after a change: `bag` reads the pairs that the change has made of this table's. The parts that an entry's cell touches are made
+    /// anew, the others are shared. With p pairs on the faces on which the change has entries and n in all it reads p to p + 12 *
+    /// digits(n + 1) pairs, for the binary digits of n + 1: a whole face at once, which a bag hands on as it is. Besides, it takes O(q + m + k)
+    /// for q parts, m entries and the k pairs of the parts made anew. `OutOfMemory` if a growth is refused; then too it has read at most so
+    /// many.
     pub fn rebuilt<B: PairReader>(
         &self,
         alloc: Global,
@@ -164,110 +208,124 @@ impl FacedTable {
         ensures reads_all { OnOk result (changed_count change.now (B.shown bag.old) ≤ B.spent bag.new) }
         ensures reads_few { B.spent bag.new ≤ changed_count change.now (B.shown bag.old) + 12 * binary_digits (length (B.shown bag.old) + 1) }
     {
-        let tables = tables_after(alloc, self, bag, change)?;
-        Ok(FacedTable::together(tables))
+        let parts = tables_after(alloc, self, bag, change)?;
+        let table = FacedTable::together(alloc, parts)?;
+        Ok(table)
     }
 
-    // The tables of faces 0 to 5, joined. O(1).
-    fn together(tables: [Arc<SpanTable>; FACES]) -> FacedTable
-        requires faces { AreOverFaces 0 (spans_of tables) }
-        requires few { length (held_in (spans_of tables)) ≤ 1000000 }
-        ensures { result.tables ≡ tables }
+    /// A copy of the table, which shares its parts. O(p) for p parts. `OutOfMemory` if a growth is refused, or a part is shared too often.
+    pub fn copied(&self, alloc: Global) -> Result<FacedTable, OutOfMemory>
+        ensures { IfOk result (λ table. ⟦<FacedTable as RangeTable>⟧.pairs table ≡ ⟦<FacedTable as RangeTable>⟧.pairs self.now) }
     {
-        let first = Offset { place: 0, start: 1 };
-        let second = first.after(&tables[0], &tables[1]);
-        let third = second.after(&tables[1], &tables[2]);
-        let fourth = third.after(&tables[2], &tables[3]);
-        let fifth = fourth.after(&tables[3], &tables[4]);
-        let sixth = fifth.after(&tables[4], &tables[5]);
-        let count = sixth.place + tables[5].range_count();
-        FacedTable {
-            tables,
-            offsets: [first, second, third, fourth, fifth, sixth],
-            inner_from: [
-                first.place + 1,
-                second.place + 1,
-                third.place + 1,
-                fourth.place + 1,
-                fifth.place + 1,
-                sixth.place + 1,
-            ],
-            inner: [
-                first.inner_count(second.place),
-                second.inner_count(third.place),
-                third.inner_count(fourth.place),
-                fourth.inner_count(fifth.place),
-                fifth.inner_count(sixth.place),
-                sixth.inner_count(count),
-            ],
-            count,
+        let mut parts = Vec::with_capacity(alloc, self.parts.len())?;
+        share(&mut parts, &self.parts)?;
+        let starts = Vec::from_slice(alloc, &self.starts)?;
+        let offsets = Vec::from_slice(alloc, &self.offsets)?;
+        Ok(FacedTable {
+            parts,
+            offsets,
+            starts,
+            faces: self.faces,
+            count: self.count,
+        })
+    }
+
+    // The table of these parts. O(p). `OutOfMemory` if a growth is refused.
+    fn together(alloc: Global, parts: Vec<Arc<SpanTable>>) -> Result<FacedTable, OutOfMemory>
+        requires neighbours { AreNeighbours 1 (spans_of parts.items) leaf_end }
+        requires faces { BeginFaces (spans_of parts.items) }
+        requires few { length (held_in (spans_of parts.items)) ≤ 1000000 }
+        ensures { IfOk result (λ table. spans_of table.parts.items ≡ spans_of parts.items) }
+    {
+        let mut starts = Vec::with_capacity(alloc, parts.len())?;
+        let mut offsets = Vec::with_capacity(alloc, parts.len())?;
+        let mut offset = Offset { place: 0, start: 1 };
+        starts.push(offset.start)?;
+        offsets.push(offset)?;
+        for next in 1..parts.len() {
+            offset = offset.after(&parts[next - 1], &parts[next]);
+            starts.push(parts[next].from())?;
+            offsets.push(offset)?;
         }
+        let count = offset.place + parts[parts.len() - 1].range_count();
+        let faces = first_parts(&starts);
+        Ok(FacedTable {
+            parts,
+            offsets,
+            starts,
+            faces,
+            count,
+        })
     }
 
-    // The tables of the six faces, each shared once more.
-    pub(crate) fn shared(&self) -> Result<[Arc<SpanTable>; FACES], AllocError>
-        ensures { IfOk result (λ shared. spans_of shared ≡ spans_of self.now.tables) }
-    {
-        Ok([
-            self.tables[0].clone()?,
-            self.tables[1].clone()?,
-            self.tables[2].clone()?,
-            self.tables[3].clone()?,
-            self.tables[4].clone()?,
-            self.tables[5].clone()?,
-        ])
-    }
-
-    // The table of a face.
-    #[inline]
-    pub(crate) fn span(&self, face: usize) -> &SpanTable
+    // The parts of a face.
+    pub(crate) fn parts_on(&self, face: usize) -> &[Arc<SpanTable>]
         requires { face < 6 }
-        ensures { result.now ≡ table_of (spans_of self.now.tables) face }
+        ensures neighbours { AreNeighbours (face_begin face) (spans_of result.now) (face_begin (face + 1)) }
+        ensures pairs { held_in (spans_of result.now) ≡ held_on face (held_in (spans_of self.now.parts.items)) }
     {
-        &self.tables[face]
+        &self.parts[self.faces[face]..self.faces[face + 1]]
     }
 
-    // The face that has a range, and the range's place in that face's table.
+    // How many parts there are.
+    pub(crate) fn part_count(&self) -> usize
+        ensures { result ≡ length (spans_of self.now.parts.items) }
+    {
+        self.parts.len()
+    }
+
+    // The table of a part.
+    #[inline]
+    fn span(&self, part: usize) -> &SpanTable
+        requires { part < length (spans_of self.now.parts.items) }
+        ensures { result.now ≡ table_of (spans_of self.now.parts.items) part }
+    {
+        &self.parts[part]
+    }
+
+    // The part that has a range, and the range's place in that part's table. O(log p).
     #[inline]
     fn own_place(&self, k: usize) -> (usize, usize)
         requires { k < self.now.count }
-        ensures own { HasOwn self.now.offsets self.now.count result.0 result.1 }
-        ensures place { place_on self.now.offsets result.0 result.1 ≡ k }
+        ensures range { HasRange (spans_of self.now.parts.items) result.0 result.1 }
+        ensures own { HasOwn self.now.offsets.items self.now.count result.0 result.1 }
+        ensures place { place_on self.now.offsets.items result.0 result.1 ≡ k }
     {
-        let face = offset_by(&self.offsets, k);
-        (face, k - self.offsets[face].place)
+        let part = offset_by(&self.offsets, k);
+        (part, k - self.offsets[part].place)
     }
 
-    // The place of a range in the table of a face, if it is one of its ranges and neither the first, which may begin before the face, nor
-    // the last: one test tells.
+    // The place of a range in the table of a part, if it is one of its ranges and neither the first, which may begin before the part, nor
+    // the last, which may end after it: one test tells.
     #[inline]
     fn own_near(&self, k: usize, near: usize) -> Option<usize>
-        ensures own { IfSome result (λ own. HasOwn self.now.offsets self.now.count near own) }
-        ensures next { IfSome result (λ own. HasOwn self.now.offsets self.now.count near (own + 1)) }
+        ensures next { IfSome result (λ own. HasRange (spans_of self.now.parts.items) near (own + 1)) }
         ensures later { IfSome result (λ own. 0 < own) }
-        ensures place { IfSome result (λ own. place_on self.now.offsets near own ≡ k) }
+        ensures place { IfSome result (λ own. place_on self.now.offsets.items near own ≡ k) }
     {
-        if near >= FACES {
+        if near >= self.parts.len() {
             return None;
         }
-        let past = k.wrapping_sub(self.inner_from[near]);
-        if past < self.inner[near] {
+        let past = k.wrapping_sub(self.offsets[near].place + 1);
+        if past < self.span(near).range_count().saturating_sub(2) {
             Some(past + 1)
         } else {
             None
         }
     }
 
-    // The leaves of a range, by its face and its place in that face's table.
+    // The leaves of a range, by its part and its place in that part's table.
     #[inline]
-    fn row_at(&self, face: usize, own: usize) -> RangeRow
-        requires { HasOwn self.now.offsets self.now.count face own }
-        ensures start { result.start ≡ (range_at (joined_ranges (spans_of self.now.tables)) (place_on self.now.offsets face own)).start }
-        ensures limit { result.limit ≡ (range_at (joined_ranges (spans_of self.now.tables)) (place_on self.now.offsets face own)).limit }
+    fn row_at(&self, part: usize, own: usize) -> RangeRow
+        requires { HasOwn self.now.offsets.items self.now.count part own }
+        ensures start { result.start
+            ≡ (range_at (joined_ranges (spans_of self.now.parts.items)) (place_on self.now.offsets.items part own)).start }
+        ensures limit { result.limit
+            ≡ (range_at (joined_ranges (spans_of self.now.parts.items)) (place_on self.now.offsets.items part own)).limit }
     {
-        let row = self.span(face).range(own);
+        let row = self.span(part).range(own);
         let start = if own == 0 {
-            self.offsets[face].start
+            self.offsets[part].start
         } else {
             row.start
         };
@@ -277,48 +335,49 @@ impl FacedTable {
         }
     }
 
-    // The leaves of a range that is neither the first nor the last one of its face: both bounds are loads of starts.
+    // The leaves of a range that is neither the first nor the last one of its part: both bounds are loads of starts.
     #[inline]
-    fn inner_row_at(&self, face: usize, own: usize) -> RangeRow
-        requires own { HasOwn self.now.offsets self.now.count face own }
-        requires next { HasOwn self.now.offsets self.now.count face (own + 1) }
+    fn inner_row_at(&self, part: usize, own: usize) -> RangeRow
+        requires next { HasRange (spans_of self.now.parts.items) part (own + 1) }
         requires later { 0 < own }
-        ensures start { result.start ≡ (range_at (joined_ranges (spans_of self.now.tables)) (place_on self.now.offsets face own)).start }
-        ensures limit { result.limit ≡ (range_at (joined_ranges (spans_of self.now.tables)) (place_on self.now.offsets face own)).limit }
+        ensures start { result.start
+            ≡ (range_at (joined_ranges (spans_of self.now.parts.items)) (place_on self.now.offsets.items part own)).start }
+        ensures limit { result.limit
+            ≡ (range_at (joined_ranges (spans_of self.now.parts.items)) (place_on self.now.offsets.items part own)).limit }
     {
-        let span = self.span(face);
+        let span = self.span(part);
         RangeRow {
             start: span.start(own),
             limit: span.start(own + 1),
         }
     }
 
-    // The place of a range's innermost pair, by the range's face and its place in that face's table.
+    // The place of a range's innermost pair, by the range's part and its place in that part's table.
     #[inline]
-    fn first_at(&self, face: usize, own: usize) -> Option<FacePlace>
-        requires { HasOwn self.now.offsets self.now.count face own }
-        ensures { LeadsTo (chain_from (spans_of self.now.tables))
+    fn first_at(&self, part: usize, own: usize) -> Option<PartPlace>
+        requires { HasRange (spans_of self.now.parts.items) part own }
+        ensures { LeadsTo (chain_from (spans_of self.now.parts.items))
             result
-            (range_at (joined_ranges (spans_of self.now.tables)) (place_on self.now.offsets face own)).contents }
+            (range_at (joined_ranges (spans_of self.now.parts.items)) (place_on self.now.offsets.items part own)).contents }
     {
-        match self.span(face).first(own) {
-            Some(node) => Some(FacePlace { face, node }),
+        match self.span(part).first(own) {
+            Some(node) => Some(PartPlace { part, node }),
             None => None,
         }
     }
 
-    // The leaves of a range, the place of its innermost pair and its face, if no face is at hand. What reads by notes comes here seldom.
+    // The leaves of a range, the place of its innermost pair and its part, if no part is at hand. What reads by notes comes here seldom.
     #[cold]
     #[inline(never)]
-    fn read_far(&self, k: usize) -> (RangeRow, Option<FacePlace>, usize)
-        requires { k < length (joined_ranges (spans_of self.now.tables)) }
-        ensures start { result.0.start ≡ (range_at (joined_ranges (spans_of self.now.tables)) k).start }
-        ensures limit { result.0.limit ≡ (range_at (joined_ranges (spans_of self.now.tables)) k).limit }
-        ensures first { LeadsTo (chain_from (spans_of self.now.tables))
+    fn read_far(&self, k: usize) -> (RangeRow, Option<PartPlace>, usize)
+        requires { k < length (joined_ranges (spans_of self.now.parts.items)) }
+        ensures start { result.0.start ≡ (range_at (joined_ranges (spans_of self.now.parts.items)) k).start }
+        ensures limit { result.0.limit ≡ (range_at (joined_ranges (spans_of self.now.parts.items)) k).limit }
+        ensures first { LeadsTo (chain_from (spans_of self.now.parts.items))
             result.1
-            (range_at (joined_ranges (spans_of self.now.tables)) k).contents }
+            (range_at (joined_ranges (spans_of self.now.parts.items)) k).contents }
     {
-        let (face, own) = self.own_place(k);
-        (self.row_at(face, own), self.first_at(face, own), face)
+        let (part, own) = self.own_place(k);
+        (self.row_at(part, own), self.first_at(part, own), part)
     }
 }

@@ -2,11 +2,11 @@
 ghost use Rattle.s2ix_table.specs.ReadingLaws.{ChangedFacesTakeFewReads, UnchangedFacesStay};
 ghost use Rattle.std.specs.Prelude.{◌≡◌, ◌↔◌, IsTrue, ◌+◌, ◌*◌, ◌≤◌, length};
 ghost use Rattle.s2ix_table_spans.specs.Once.{KeepsOnce};
-ghost use Rattle.s2ix_table.specs.declared.face_place.FacePlace.{FacePlace};
+ghost use Rattle.s2ix_table.specs.declared.part_place.PartPlace.{PartPlace};
 
 use crate::chain_table::ChainTable;
-use crate::face_place::FacePlace;
 use crate::faced_table::FacedTable;
+use crate::part_place::PartPlace;
 use crate::shares_chains::SharesChains;
 use s2ix_table_queries::RangeTable;
 pub use s2ix_table_queries::laws::{
@@ -43,13 +43,13 @@ pub fn chain_table_has_few_ranges(table: &ChainTable)
 }
 
 /// Two places in a `FacedTable` are equal exactly if they are the same.
-pub fn equal_face_places_are_one()
-    ensures { (a b : FacePlace) → IsTrue (⟦<FacePlace as PartialEq>⟧.eq a b) ↔ (a ≡ b) }
+pub fn equal_part_places_are_one()
+    ensures { (a b : PartPlace) → IsTrue (⟦<PartPlace as PartialEq>⟧.eq a b) ↔ (a ≡ b) }
 {}
 
 /// A clone of a place in a `FacedTable` is the same.
-pub fn cloned_face_places_are_the_same()
-    ensures { (a copy : FacePlace) → ⟦<FacePlace as Clone>⟧.is_clone a copy ↔ (copy ≡ a) }
+pub fn cloned_part_places_are_the_same()
+    ensures { (a copy : PartPlace) → ⟦<PartPlace as Clone>⟧.is_clone a copy ↔ (copy ≡ a) }
 {}
 
 /// A `FacedTable` of n pairs has at most 2 * n + 1 ranges.

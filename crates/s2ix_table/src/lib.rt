@@ -20,12 +20,13 @@
 //! | Which labels meet it? | [`RangeTable::labels`] | the same, and the sorting of the labels |
 //! | Which pairs lie over a leaf? | [`chain_at`] | O(log n + k) |
 //! | Which range has a leaf? | [`RangeTable::find`], [`RangeIter::seek`] | O(log n) |
-//! | What lies over each range? | [`ranges`], [`contents`] | O(1) a step |
+//! | What lies over each range? | [`ranges`], [`contents`] | O(1) a step, but O(log p) for `contents` in a table of p parts |
 //! | What did a query read? | a [`Cost`], from `visit_counted`, or from a [`Meter`] after a [`walk`] | as `visit` |
 //!
 //! A table of n pairs has at most 2 * n + 1 ranges. The ranges of a [`ChainTable`] share their chains, so that it has each pair once.
-//! [`FacedTable`] has one such table for each face and rebuilds only the faces of a change ([`FacedTable::rebuilt`], over a [`BagReader`]):
-//! a store keeps one. [`CopiedTable`] has a list for each range, and is slow to build: tests compare the others with it.
+//! A [`FacedTable`] is made of parts over neighbouring leaves, each with shared chains of its own, and makes anew only the parts that a change
+//! touches ([`FacedTable::rebuilt`], over a [`BagReader`]): a store keeps one. [`CopiedTable`] has a list for each range, and is slow to build:
+//! tests compare the others with it.
 //!
 //! The crates below this one: `s2ix_table_walk` defines the ranges of a bag and what meets a target, finds it, and counts what it reads;
 //! `s2ix_table_queries` has the trait with its queries, and `CopiedTable`; `s2ix_table_spans` builds the shared chains over a span of
@@ -35,28 +36,32 @@
 mod bag_reader;
 mod chain_table;
 mod changes;
-mod face_place;
+mod entries_on;
 mod faced_table;
 pub mod laws;
 mod offset;
 mod pair_reader;
+mod part_place;
+mod parts;
+mod parts_changed;
 mod read_faces;
 mod shares_chains;
+mod starts;
 mod tables;
 
 pub use bag_reader::BagReader;
 pub use chain_table::ChainTable;
 pub use changes::{changed_face_count, changed_faces};
-pub use face_place::FacePlace;
 pub use faced_table::FacedTable;
 pub use pair_reader::PairReader;
+pub use part_place::PartPlace;
+pub use parts::parts_over;
+pub use parts_changed::parts_after;
 pub use read_faces::{read_changed, read_face, read_list};
 pub use s2ix_table_queries::{
     ChainIter, CopiedPlace, CopiedTable, Meter, RangeIter, RangeTable, Stretch, Visit, chain_at,
     contents, ranges,
 };
 pub use s2ix_table_spans::SpanTable;
-pub use s2ix_table_walk::{
-    Cost, MANY_RANGES, Meeting, RangeRow, Reader, SAMPLE_STEP, Window, walk,
-};
+pub use s2ix_table_walk::{Cost, Meeting, RangeRow, Reader, Window, walk};
 pub use shares_chains::SharesChains;

@@ -1,10 +1,9 @@
-//! Where the ranges of each face's table are among the joined ones.
-ghost use Rattle.std.specs.Prelude.{◌≡◌, ◌+◌, ◌-◌, ◌<◌, ◌≤◌, length, slice_index_or};
+//! Where the ranges of each part are among the joined ones.
+ghost use Rattle.std.specs.Prelude.{◌≡◌, ◌+◌, ◌<◌, ◌≤◌, length, slice_index_or};
 ghost use Rattle.s2ix_table_spans.specs.SpanTable.{IsSpanTable};
 ghost use Rattle.s2ix_table_spans.specs.Starts.{IsLastStart};
-ghost use Rattle.s2ix_table.specs.Offsets.{offset_after, places_of, AreInOrder};
+ghost use Rattle.s2ix_table.specs.Offsets.{offset_after, places_of};
 
-use s2id_core::FACES;
 use s2ix_table_spans::SpanTable;
 use s2ix_table_spans::laws::ranges_are_those_of_the_span;
 
@@ -29,11 +28,11 @@ impl Offset {
         ranges_are_those_of_the_span(table);
         ranges_are_those_of_the_span(next);
         let last = table.range_count() - 1;
-        if table.first(last).is_none() && next.first(0).is_none() {
+        if table.first_at_end().is_none() && next.first_at_start().is_none() {
             let start = if last == 0 {
                 self.start
             } else {
-                table.start(last)
+                table.last_start()
             };
             Offset {
                 place: self.place + last,
@@ -42,32 +41,29 @@ impl Offset {
         } else {
             Offset {
                 place: self.place + last + 1,
-                start: next.start(0),
+                start: next.from(),
             }
         }
     }
-
-    // How many ranges a table has beside its first and its last one, by the place of the next offset. O(1).
-    #[inline]
-    pub(crate) fn inner_count(self, next: usize) -> usize
-        ensures { result ≡ next - self.place - 2 }
-    {
-        next.saturating_sub(self.place).saturating_sub(2)
-    }
 }
 
-// The face of a range: that of the last offset whose place is not after the range's. It takes five tests and no branch.
+// The part that has a range: that of the last offset whose place is not after the range's. O(log p) for p parts.
 #[inline]
-pub(crate) fn offset_by(offsets: &[Offset; FACES], k: usize) -> usize
-    requires order { AreInOrder offsets.now }
-    requires first { slice_index_or (places_of offsets.now) 0 0 ≡ 0 }
-    ensures last { IsLastStart (places_of offsets.now) k result }
-    ensures within { result < 6 }
+pub(crate) fn offset_by(offsets: &[Offset], k: usize) -> usize
+    requires some { 0 < length offsets.now }
+    requires first { slice_index_or (places_of offsets.now) 0 0 ≤ k }
+    ensures { IsLastStart (places_of offsets.now) k result }
 {
-    let [_, second, third, fourth, fifth, sixth] = offsets;
-    usize::from(second.place <= k)
-        + usize::from(third.place <= k)
-        + usize::from(fourth.place <= k)
-        + usize::from(fifth.place <= k)
-        + usize::from(sixth.place <= k)
+    let mut first = 0;
+    let mut size = offsets.len();
+    while size > 1 {
+        let half = size / 2;
+        if offsets[first + half].place <= k {
+            first += half;
+            size -= half;
+        } else {
+            size = half;
+        }
+    }
+    first
 }

@@ -3,7 +3,7 @@ ghost use Rattle.s2ix_bag_pairs.specs.Collection.{Collection};
 ghost use Rattle.s2ix_table.specs.Reading.{HasRead, IsRead, with_read, with_reads};
 
 use s2id_core::OutOfMemory;
-use s2ix_bag_lists::{FlatHeld, HeldList};
+use s2ix_bag_lists::{FlatHeld, HeldParts};
 use s2ix_bag_pairs::Held;
 use std::alloc::Global;
 
@@ -35,7 +35,7 @@ pub trait PairReader {
         alloc: Global,
         from: usize,
         to: usize,
-    ) -> Result<HeldList, OutOfMemory>
+    ) -> Result<HeldParts, OutOfMemory>
         requires rises { from ≤ to }
         requires within { to ≤ length (shown self.old) }
         ensures pairs { IfOk result (λ held. held ≡ take (to - from) (drop from (shown self.old))) }
@@ -49,7 +49,7 @@ pub trait PairReader {
             held.push(FlatHeld::new(self.read(place)))?;
             place += 1;
         }
-        HeldList::new(alloc, held)
+        HeldParts::new(alloc, &held)
     }
 
     /// How many pairs were read so far, in a count that stops at 2^64 - 1.

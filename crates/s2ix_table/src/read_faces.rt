@@ -10,7 +10,7 @@ use crate::changes::changed_faces;
 use crate::pair_reader::PairReader;
 use s2id_core::OutOfMemory;
 use s2ix_bag_changes::Change;
-use s2ix_bag_lists::{FlatHeld, HeldList};
+use s2ix_bag_lists::{FlatHeld, HeldParts};
 use s2ix_bag_pairs::Pair;
 use std::alloc::Global;
 
@@ -57,7 +57,7 @@ pub fn read_face<B: PairReader>(
         (length (held_on face (B.shown reader.old)) + two_searches (B.shown reader.old)) (B.spent reader.old) (B.spent reader.new) }
 {
     let list = read_list(alloc, reader, face)?;
-    Ok(Vec::from_slice(alloc, list.as_slice())?)
+    list.flat(alloc)
 }
 
 /// The pairs held on a face, as `read_face` gives them and by as many reads, in a list that others may keep too: of a bag it is the bag's
@@ -66,7 +66,7 @@ pub fn read_list<B: PairReader>(
     alloc: Global,
     reader: &mut B,
     face: u8,
-) -> Result<HeldList, OutOfMemory>
+) -> Result<HeldParts, OutOfMemory>
     ensures pairs { IfOk result (λ held. held ≡ held_on face (B.shown reader.old)) }
     ensures same { B.shown reader.new ≡ B.shown reader.old }
     ensures reads { OnOk result (IsFaceRead face (B.shown reader.old) (B.spent reader.old) (B.spent reader.new)) }

@@ -6,6 +6,7 @@ pub use Rattle.s2ix_table_walk.specs.Table
 pub use Rattle.s2ix_table_walk.specs.Calls
 pub use Rattle.s2ix_table_walk.specs.Costs
 pub use Rattle.s2ix_table_walk.specs.Places
+pub use Rattle.s2ix_table_walk.specs.Shown
 pub use Rattle.s2ix_table_walk.specs.Stretches
 pub mod Iterators
 pub mod Copied

@@ -1,3 +1,4 @@
+ghost use Rattle.s2ix_table_walk.specs.Shown.{one_border};
 ghost use Rattle.std.specs.Prelude.{◌≡◌, ◌≢◌, ℕ, ◌%◌, ◌<◌, ◌≤◌, IfOk, drop, length};
 ghost use Rattle.s2ix_bag_pairs.specs.Collection.{IsCollection};
 ghost use Rattle.s2ix_bag_pairs.specs.OneProof.{IsCollection-prop};
@@ -51,6 +52,8 @@ impl RangeTable for CopiedTable {
 
     ghost is_table = { λ t. t.table };
 
+    ghost are_borders = { λ t. one_border t.table.some };
+
     ghost few = { λ t. t.few };
 
     fn build(alloc: Global, bag: &Bag) -> Result<Self, OutOfMemory> {
@@ -78,6 +81,11 @@ impl RangeTable for CopiedTable {
         } else {
             Some(CopiedPlace { range: k, at: 0 })
         }
+    }
+
+    // it is one part
+    fn border(&self, _m: usize) -> usize {
+        0
     }
 
     fn held_at(&self, place: CopiedPlace) -> Held {

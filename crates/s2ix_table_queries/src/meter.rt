@@ -1,24 +1,21 @@
 ghost use Rattle.std.specs.Prelude.{◌≡◌};
 ghost use Rattle.s2ix_table_walk.specs.Costs.{no_cost};
-ghost use Rattle.s2ix_table_walk.specs.Stretches.{IsSample, IsStretch};
+ghost use Rattle.s2ix_table_walk.specs.Stretches.{IsStretch};
 
 use crate::stretch::Stretch;
 use crate::table::RangeTable;
 use s2ix_bag_pairs::Held;
-use s2ix_table_walk::{Cost, RangeRow, Reader, SAMPLE_STEP, Window};
+use s2ix_table_walk::{Cost, RangeRow, Reader, Window};
 
-/// A reader of a table that counts what is read of it. It keeps three things at hand: the stretch of the face that was last asked for, in
-/// which a search reads where ranges begin, the first range of that face's window, and the note that makes the next read of a range nearby
-/// quicker.
+/// A reader of a table that counts what is read of it. It keeps two things at hand: the stretch of the part that it last went to, in
+/// which a search reads where ranges begin, and the note that makes the next read of a range nearby quicker.
 #[derive(Debug, Drop)]
 pub struct Meter<'a, T: RangeTable> {
     table: &'a T,
     cost: Cost,
     near: Stretch<'a>,
-    window_first: usize,
     note: usize,
     pub ghost near_is: { IsStretch (T.ranges table.now) near.first near.count near.starts.now },
-    pub ghost sample_is: { IsSample near.count near.starts.now near.sample.now },
 }
 
 // A note that no table knows a range by. A search passes it for a range outside the stretch at hand, so that the compiler keeps the
@@ -29,15 +26,13 @@ impl<'a, T: RangeTable> Meter<'a, T> {
     /// A reader of a table that has read nothing. O(1).
     pub fn new(table: &'a T) -> Meter<'a, T>
         ensures shown { ⟦<Meter<'a, T> as Reader>⟧.shown result
-            ≡ record { pairs = T.pairs table.now; ranges = T.ranges table.now; chain = T.chain table.now } }
+            ≡ record { pairs = T.pairs table.now; ranges = T.ranges table.now; chain = T.chain table.now; borders = T.borders table.now } }
         ensures unread { ⟦<Meter<'a, T> as Reader>⟧.spent result ≡ no_cost }
-        ensures sampled { ⟦<Meter<'a, T> as Reader>⟧.sampled_from result ≡ 0 }
     {
         Meter {
             table,
             cost: Cost::none(),
             near: Stretch::none(),
-            window_first: 0,
             note: 0,
         }
     }
@@ -46,25 +41,19 @@ impl<'a, T: RangeTable> Meter<'a, T> {
 impl<T: RangeTable> Reader for Meter<'_, T> {
     type Place = T::Place;
 
-    ghost shown = { λ meter. record { pairs = T.pairs meter.table.now; ranges = T.ranges meter.table.now; chain = T.chain meter.table.now } };
+    ghost shown = { λ meter. record { pairs = T.pairs meter.table.now; ranges = T.ranges meter.table.now; chain = T.chain meter.table.now; borders = T.borders meter.table.now } };
 
     ghost spent = { λ meter. meter.cost };
 
-    ghost sampled_from = { λ meter. meter.window_first };
-
-    ghost is_shown = { λ meter. record { is_collection = T.is_collection meter.table.now; is_table = T.is_table meter.table.now; few = T.few meter.table.now } };
+    ghost is_shown = { λ meter. record { is_collection = T.is_collection meter.table.now; is_table = T.is_table meter.table.now; few = T.few meter.table.now; are_borders = T.are_borders meter.table.now } };
 
     fn range_count(&self) -> usize {
         self.table.range_count()
     }
 
-    fn window(&mut self, face: u8) -> Window {
+    fn window(&mut self, face: u8) -> (Window, Window) {
         self.cost.add_probe();
-        self.near = self.table.stretch(face);
-        self.note = self.near.note;
-        let window = self.table.window(face);
-        self.window_first = window.first;
-        window
+        (self.table.window(face), self.table.face_borders(face))
     }
 
     fn first(&self, k: usize) -> Option<T::Place> {
@@ -89,17 +78,18 @@ impl<T: RangeTable> Reader for Meter<'_, T> {
         self.table.read_near(k, NO_NOTE).0.start
     }
 
-    fn sampled_by(&self, k: usize) -> usize {
-        k - k.saturating_sub(self.window_first) % SAMPLE_STEP
+    fn border(&self, m: usize) -> usize {
+        self.table.border(m)
     }
 
-    fn sampled_start(&mut self, k: usize) -> u64 {
-        let own = k.wrapping_sub(self.near.first);
-        if own % SAMPLE_STEP == SAMPLE_STEP - 1 && own / SAMPLE_STEP < self.near.sample.len() {
-            self.cost.add_probe();
-            return self.near.sample[own / SAMPLE_STEP];
-        }
-        self.start(k)
+    fn border_start(&mut self, m: usize) -> u64 {
+        self.cost.add_probe();
+        self.table.border_start(m)
+    }
+
+    fn go_to(&mut self, m: usize) {
+        self.near = self.table.stretch(m);
+        self.note = self.near.note;
     }
 
     fn row_and_first(&mut self, k: usize) -> (RangeRow, Option<T::Place>) {

@@ -1,11 +1,12 @@
-ghost use Rattle.std.specs.Prelude.{◌≡◌, ◌<◌, ◌≤◌, ◌∷◌, ℕ, IfOk, IsTrue, List, length, drop};
+ghost use Rattle.std.specs.Prelude.{◌≡◌, ◌+◌, ◌<◌, ◌≤◌, ◌∷◌, ℕ, IfOk, IsTrue, List, [], length, drop, slice_index_or};
 ghost use Rattle.s2id_core.specs.CellId.{raw_of, level_of};
 ghost use Rattle.s2ix_bag_pairs.specs.Collection.{Collection, IsCollection};
 ghost use Rattle.s2ix_table_walk.specs.LabelList.{label_list};
 ghost use Rattle.s2ix_table_walk.specs.Table.{Range, range_at, IsRangeTable};
 ghost use Rattle.s2ix_table_walk.specs.Places.{IsPlace, LeadsTo};
 ghost use Rattle.s2ix_table_walk.specs.FaceWindows.{HaveFace};
-ghost use Rattle.s2ix_table_walk.specs.Stretches.{IsSample, IsStretch};
+ghost use Rattle.s2ix_table_walk.specs.Shown.{AreBorders};
+ghost use Rattle.s2ix_table_walk.specs.Stretches.{IsStretch};
 ghost use Rattle.s2ix_table_walk.specs.Meeting.{IsMeetingList, IsLabelList, meeting_of};
 ghost use Rattle.s2ix_table_walk.specs.Calls.{MayVisit, CallsOn, Visits};
 ghost use Rattle.s2ix_table_walk.specs.Costs.{ranges_met, IsWalkCost};
@@ -24,8 +25,11 @@ use std::alloc::Global;
 /// The range table of a collection: the maximal spans of leaves over which the same pairs lie, in order, each with a
 /// chain of these pairs (S2's `S2CellIndex`, its ranges and its contents). The ranges cover all leaves, empty ones too.
 ///
-/// Queries are `visit`, `visit_counted`, `meeting` and `labels`, at the end. `window`, `stretch` and `read_near` only make a walk quicker:
-/// a user needs none of them, and a table may keep their default bodies.
+/// Queries are `visit`, `visit_counted`, `meeting` and `labels`, at the end. `window`, `stretch`, `read_near` and the calls on borders only
+/// make a walk quicker: a user needs none of them, and a table may keep their default bodies.
+///
+/// A table may keep its ranges in parts. A *border* is the place of the range at which a part begins; the borders rise, and several parts
+/// may have one border. A table that isn't kept in parts is one, with border 0.
 ///
 /// Costs are in n, the number of the table's pairs: there are at most 2 * n + 1 ranges.
 pub trait RangeTable: Sized {
@@ -38,6 +42,9 @@ pub trait RangeTable: Sized {
     // the ranges, each with its contents
     ghost ranges: { Self → List Range };
 
+    // the ranges at which the parts of the table begin; only the first range if it isn't kept in parts
+    ghost borders: { Self → List ℕ } = { λ _. 0 ∷ [] };
+
     // the pairs from a place on, outwards; none if it is no place of the table
     ghost chain: { Self → Self.Place → Collection };
 
@@ -49,7 +56,7 @@ pub trait RangeTable: Sized {
     fn range_count(&self) -> usize
         ensures { result ≡ length (ranges self.now) };
 
-    /// The leaves of a range. O(1).
+    /// The leaves of a range. O(1), or O(log p) for a table in p parts.
     fn range(&self, k: usize) -> RangeRow
         requires { k < length (ranges self.now) }
         ensures start { result.start ≡ (range_at (ranges self.now) k).start }
@@ -66,24 +73,45 @@ pub trait RangeTable: Sized {
         }
     }
 
-    /// Consecutive ranges over a face, 0 to 5, with a list of where each begins; by default none, for a table that keeps no such list.
-    /// A walk is quicker over them. No clause says which ranges these are: only the bench shows if they are few. O(1).
-    fn stretch(&self, face: u8) -> Stretch<'_>
+    /// A window of the borders, with those of the parts that begin on a face, 0 to 5; by default none. No clause says which borders these
+    /// are: a search for a range on the face is quicker if they are those. O(1).
+    fn face_borders(&self, face: u8) -> Window
         requires { face < 6 }
-        ensures stretch { IsStretch (ranges self.now) result.first result.count result.starts.now }
-        ensures sample { IsSample result.count result.starts.now result.sample.now }
+        ensures { result.first + result.size ≤ length (borders self.now) }
+    {
+        Window { first: 0, size: 0 }
+    }
+
+    /// A border: the place of the range at which a part begins. O(1).
+    fn border(&self, m: usize) -> usize
+        requires { m < length (borders self.now) }
+        ensures { result ≡ slice_index_or (borders self.now) m 0 };
+
+    /// Where the range at a border begins. O(1).
+    fn border_start(&self, m: usize) -> u64
+        requires { m < length (borders self.now) }
+        ensures { result ≡ (range_at (ranges self.now) (slice_index_or (borders self.now) m 0)).start }
+    {
+        self.range(self.border(m)).start
+    }
+
+    /// Consecutive ranges of the part at a border, with a list of where each begins; by default none, for a table that keeps no such list.
+    /// A walk is quicker over them. Any number is accepted, also one without a border. No clause says which ranges these are: only the
+    /// bench shows if they are few. O(1).
+    fn stretch(&self, m: usize) -> Stretch<'_>
+        ensures { IsStretch (ranges self.now) result.first result.count result.starts.now }
     {
         Stretch::none()
     }
 
-    /// The place of a range's innermost pair, or `None` if nothing lies over the range. O(1).
+    /// The place of a range's innermost pair, or `None` if nothing lies over the range. O(1), or O(log p) for a table in p parts.
     fn first(&self, k: usize) -> Option<Self::Place>
         requires { k < length (ranges self.now) }
         ensures { LeadsTo (chain self.now) result (range_at (ranges self.now) k).contents };
 
     /// The leaves of a range and the place of its innermost pair, as [`range`](RangeTable::range) and [`first`](RangeTable::first) give
     /// them, and a note for the next call nearby. Any `note` is accepted; that of a nearby call, or of a stretch that has the range, makes
-    /// the call quicker. O(1).
+    /// the call quicker: O(1) then.
     fn read_near(&self, k: usize, note: usize) -> (RangeRow, Option<Self::Place>, usize)
         requires { k < length (ranges self.now) }
         ensures start { result.0.start ≡ (range_at (ranges self.now) k).start }
@@ -115,6 +143,9 @@ pub trait RangeTable: Sized {
 
     // the ranges are the range table of the pairs
     ghost is_table: { (table : Self) → IsRangeTable (pairs table) (ranges table) };
+
+    // the borders are ranges, in order
+    ghost are_borders: { (table : Self) → AreBorders (ranges table) (borders table) };
 
     // the pairs are at most as many as the widest limits let a bag hold
     ghost few: { (table : Self) → length (pairs table) ≤ 1000000 };

@@ -1,5 +1,5 @@
 -- Ranges read by their starts.
-use Rattle.std.specs.Prelude.{ℕ, ◌+◌, ◌<◌, ◌≤◌, List, [], ◌∷◌, length, slice_index_or}
+use Rattle.std.specs.Prelude.{◌≡◌, ℕ, ◌+◌, ◌-◌, ◌<◌, ◌≤◌, List, [], ◌∷◌, length, slice_index_or}
 use Rattle.s2ix_bag_pairs.specs.Collection.{Collection}
 use Rattle.s2ix_table_walk.specs.Contents.{contents_at}
 use Rattle.s2ix_table_walk.specs.Table.{Range}
@@ -22,3 +22,9 @@ pub record IsAmong (starts : List ℕ) (leaf first size : ℕ) : Type 0 where
   pub within : first + size ≤ length starts
   pub by : slice_index_or starts first 0 ≤ leaf
   pub after : first + size < length starts → leaf < slice_index_or starts (first + size) 0
+
+-- what stands at the ends of lists of starts and of places beside them: the first place and the last one, and the last start
+pub record AreEnds (starts firsts : List ℕ) (first_place last_place last_start : ℕ) : Type 0 where
+  pub first : slice_index_or firsts 0 0 ≡ first_place
+  pub last : slice_index_or firsts (length starts - 1) 0 ≡ last_place
+  pub start : slice_index_or starts (length starts - 1) 0 ≡ last_start

@@ -6,6 +6,7 @@ ghost use Rattle.s2ix_table_walk.specs.Places.{IsPlace, LeadsTo};
 ghost use Rattle.s2ix_table_walk.specs.Stretches.{IsSample};
 ghost use Rattle.s2ix_table_spans.specs.Chains.{chain_of};
 ghost use Rattle.s2ix_table_spans.specs.Nodes.{AreNodes};
+ghost use Rattle.s2ix_table_spans.specs.Starts.{AreEnds};
 ghost use Rattle.s2ix_table_spans.specs.SpanTable.{IsInSpan, IsSpanTable};
 
 use crate::nodes::Nodes;
@@ -27,14 +28,19 @@ use std::marker::Model;
 /// Costs are in n, the number of the pairs: there are at most 2 * n + 1 ranges.
 #[derive(Debug, Drop)]
 pub struct SpanTable {
+    from: u64,
+    to: u64,
+    // where the last range begins, and beside it and the first one the place of the innermost pair: who joins tables reads no list for these
+    last_start: u64,
+    first_place: u32,
+    last_place: u32,
     pub(crate) held: HeldList,
     outer: Vec<u32>,
     starts: Vec<u64>,
     firsts: Vec<u32>,
     sample: Vec<u64>,
-    from: u64,
-    to: u64,
     ghost sampled: { IsSample (length starts.items - 2) (drop 1 starts.items) sample.items },
+    ghost ends: { AreEnds starts.items firsts.items first_place last_place last_start },
 }
 
 impl Model for SpanTable {
@@ -108,14 +114,18 @@ impl SpanTable {
         ensures table { IfOk result (λ table. IsSpanTable table) }
     {
         let sample = sample_of(alloc, nodes.starts.as_slice())?;
+        let last = nodes.starts.len() - 1;
         Ok(SpanTable {
+            from,
+            to,
+            last_start: nodes.starts[last],
+            first_place: nodes.firsts[0],
+            last_place: nodes.firsts[last],
             held,
             outer: nodes.outer,
             starts: nodes.starts,
             firsts: nodes.firsts,
             sample,
-            from,
-            to,
         })
     }
 
@@ -183,6 +193,35 @@ impl SpanTable {
         ensures { LeadsTo (chain_of self.now.held) result (range_at self.now.ranges k).contents }
     {
         self.as_place(self.firsts[k])
+    }
+
+    /// The place of the innermost pair over the first range, or `None` if nothing lies over it. It reads no list. O(1).
+    pub fn first_at_start(&self) -> Option<u32>
+        ensures { LeadsTo (chain_of self.now.held) result (range_at self.now.ranges 0).contents }
+    {
+        self.as_place(self.first_place)
+    }
+
+    /// The place of the innermost pair over the last range, or `None` if nothing lies over it. It reads no list. O(1).
+    pub fn first_at_end(&self) -> Option<u32>
+        ensures { LeadsTo (chain_of self.now.held) result (range_at self.now.ranges (length self.now.ranges - 1)).contents }
+    {
+        self.as_place(self.last_place)
+    }
+
+    /// The number of the last range's first leaf. It reads no list. O(1).
+    pub fn last_start(&self) -> u64
+        ensures { result ≡ (range_at self.now.ranges (length self.now.ranges - 1)).start }
+    {
+        self.last_start
+    }
+
+    /// The number of the span's first leaf. O(1).
+    pub fn from(&self) -> u64
+        ensures from { result ≡ self.now.from }
+        ensures start { result ≡ (range_at self.now.ranges 0).start }
+    {
+        self.from
     }
 
     /// The pair at a place, with its count. O(1).

@@ -1,4 +1,4 @@
-//! Tests of range tables of all kinds: worked ones, a table over one face, tables of very many ranges, and what is read of a bag for them.
+//! Tests of range tables of all kinds: worked ones, a table over one face, parts of tables, tables of very many ranges, and what is read of a bag for them.
 //!
 //! In `refused_tests` each growth of a call is refused in turn: `tests/hostile` runs each test there once for each growth that it asks for.
 //! The call tells so and has changed nothing, and made again it answers as it does with memory. The growths of the tests in
@@ -7,6 +7,8 @@
 
 #[cfg(test)]
 mod many_tests;
+#[cfg(test)]
+mod parts_tests;
 #[cfg(test)]
 mod reading_tests;
 #[cfg(test)]

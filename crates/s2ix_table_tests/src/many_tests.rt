@@ -1,8 +1,8 @@
-//! Tables of so many ranges on a face that a search begins with a sample of their starts.
+//! Tables of very many ranges on a face, and the parts that they are kept in.
 use s2id_core::CellId;
 use s2id_union::CellUnion;
 use s2ix_bag::{Bag, Change, Entry, Held, Label, Limits, Pair};
-use s2ix_table::{ChainTable, FacedTable, MANY_RANGES, RangeTable, SAMPLE_STEP, Stretch};
+use s2ix_table::{ChainTable, FacedTable, RangeTable};
 use std::alloc::Global;
 
 // The number of the first cell of level 9 on face 5.
@@ -64,22 +64,10 @@ fn a_cell_is_found_among_many_ranges(rt: HostRuntime) {
     assert!(rt; finds_cells::<FacedTable>(rt.alloc(), &bag) == Some(true));
 }
 
-// Whether a stretch has every 16th of its starts in its sample, from the 16th on, and no others.
-fn has_sample(stretch: Stretch<'_>) -> bool {
-    let mut place = SAMPLE_STEP - 1;
-    for start in stretch.sample {
-        if place >= stretch.count || stretch.starts.get(place) != Some(start) {
-            return false;
-        }
-        place = place.wrapping_add(SAMPLE_STEP);
-    }
-    stretch.sample.len() == stretch.count / SAMPLE_STEP
-}
-
 #[test]
-fn a_table_of_many_ranges_has_a_sample(rt: HostRuntime) {
+fn a_face_is_kept_in_parts(rt: HostRuntime) {
     let bag = wide_bag(rt.alloc()).expect(&rt, "a bag");
     let table = FacedTable::build(rt.alloc(), &bag).expect(&rt, "memory");
-    let stretch = table.stretch(5);
-    assert!(rt; stretch.count > MANY_RANGES && has_sample(stretch));
+    assert!(rt; table.face_borders(5).size >= 39);
+    assert!(rt; table.face_borders(0).size == 1);
 }

@@ -36,8 +36,8 @@ impl PairReader for ByPairs<'_> {
 
     fn read(&mut self, k: usize) -> Held {
         self.reads = self.reads.saturating_add(1);
-        let (before, own) = self.bag.face_at(k);
-        own[k - before].held()
+        let (before, part) = self.bag.part_at(k);
+        part.at(k - before)
     }
 
     fn reads(&self) -> u64 {
@@ -51,6 +51,7 @@ fn reads_three<R: PairReader>(alloc: Global, reader: &mut R) -> Option<bool> {
         return None;
     }
     let held = reader.read_between(alloc, 1, 4).ok()?;
+    let held = held.flat(alloc).ok()?;
     Some(are_flat_pairs(held.as_slice(), "1:7:2 1:9:3 5:7:4") && reader.reads() == 3)
 }
 
@@ -84,7 +85,12 @@ fn reads_face(alloc: Global, bag: &Bag) -> Option<bool> {
     let held = read_face(alloc, &mut copying, 0).ok()?;
     let mut sharing = BagReader::new(bag);
     let list = read_list(alloc, &mut sharing, 0).ok()?;
-    Some(are_read(&copying, held.as_slice()) && are_read(&sharing, list.as_slice()))
+    match list.parts() {
+        [part] => {
+            Some(are_read(&copying, held.as_slice()) && are_read(&sharing, part.as_slice()))
+        }
+        _ => None,
+    }
 }
 
 #[test]

@@ -22,5 +22,6 @@ fn a_bag(rt: HostRuntime) {
 fn a_face_of_a_bag(rt: HostRuntime) {
     let held = bag(&rt, rt.alloc());
     let list = read_list(rt.alloc(), &mut BagReader::new(&held), 2).expect(&rt, SET_UP);
-    assert!(rt; are_flat_pairs(list.as_slice(), "5:3:2 5:4:1"));
+    assert!(rt; list.len() == 2 && list.parts().len() == 1);
+    assert!(rt; are_flat_pairs(list.part_at(0).1.as_slice(), "5:3:2 5:4:1"));
 }

@@ -17,7 +17,7 @@ pub mod OnFaces
 pub mod WalkSteps
 pub mod Left
 pub mod GivenPairs
-pub mod Gallops
+pub mod Rooms
 pub mod Paying
 pub mod Calling
 pub mod Meets

@@ -220,7 +220,7 @@ pub record IsPast {P : Type 0} (shown : Shown P) (target : List CellId) (walk : 
 pub walk_past : {P : Type 0} (shown : Shown P) (target : List CellId) (k range limit end : ℕ) (x y : CellId) (walk : WalkState P)
     → IsAt target shown.pairs shown.ranges k walk.from range x → IsBegun target k limit walk.cell y
     → LeadsTo shown.chain walk.place (range_at shown.ranges range).contents → limit ≡ (range_at shown.ranges range).limit → end ≡ end_of y
-    → IsKnown shown.ranges walk.known → GoesOn range limit end (walk.range, walk.seen) → IsPast shown target walk
+    → IsKnown shown walk.known → GoesOn range limit end (walk.range, walk.seen) → IsPast shown target walk
 walk_past {P} shown target k range limit end x y walk a begun leads is_limit is_end known on =
     let hs = shown.pairs in
     let ranges = shown.ranges in

@@ -164,7 +164,7 @@ halved hs ranges leaf first half one (suc j) t w is some by beyond =
 
 -- as many ranges as there is room for, at the end of some or at their beginning
 pub room_left : (hs : Collection) (ranges : List Range) (leaf from size over one : ℕ) → IsRangeTable hs ranges
-    → IsWindow ranges leaf from (over + size) → over < size → ((range_at ranges (from + over)).start ≤ leaf → one ≡ 1)
+    → IsWindow ranges leaf from (over + size) → over ≤ size → ((range_at ranges (from + over)).start ≤ leaf → one ≡ 1)
     → (leaf < (range_at ranges (from + over)).start → one ≡ 0) → IsWindow ranges leaf (from + over * one) size
 room_left hs ranges leaf from size over one t w less by beyond =
     let all = w.within in

@@ -35,9 +35,10 @@ left_with shown target walk = front_from walk.from (from_place shown.chain walk.
 abbrev pub ArePassed : List CellId → ℕ → ℕ → Type 0
 ArePassed target k seen = (j : ℕ) (d : CellId) → j < k → j < length target → end_of (slice_index_or target j d) ≤ seen
 
--- where the ranges over a face end, if one is known
-abbrev pub IsKnown : List Range → KnownFace → Type 0
-IsKnown ranges known = known.face < 6 → HaveFace ranges known.face 0 known.end
+-- where the ranges over a face end, if one is known, and borders of the table
+pub record IsKnown {P : Type 0} (shown : Shown P) (known : KnownFace) : Type 0 where
+  pub face : known.face < 6 → HaveFace shown.ranges known.face 0 known.end
+  pub borders : known.borders.first + known.borders.size ≤ length shown.borders
 
 -- the range at hand has the leaf `seen`, unless `seen` is the end of the leaves; the leaf before `seen`, if there is one, is the target's;
 -- and no range that has a leaf of the target from `seen` on begins before it: the ranges that were read are done with
@@ -49,7 +50,7 @@ pub record IsWalk {P : Type 0} (shown : Shown P) (target : List CellId) (walk : 
   pub found : walk.seen < leaf_end → IsFound shown.ranges walk.range walk.seen
   pub place : (p : P) → walk.place ≡ Some p → IsPlace shown.chain p
   pub fresh : (k q : ℕ) → Covers target q → walk.seen ≤ q → IsFound shown.ranges k q → walk.seen ≤ (range_at shown.ranges k).start
-  pub known : IsKnown shown.ranges walk.known
+  pub known : IsKnown shown walk.known
 
 -- ---- what was read
 

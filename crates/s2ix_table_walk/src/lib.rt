@@ -11,9 +11,12 @@
 #![tactic(auto)]
 
 mod along_ranges;
+mod borders;
 mod cost;
 pub mod laws;
 mod meeting;
+mod narrowing;
+mod power;
 mod reader;
 mod row;
 mod sample;

@@ -42,7 +42,7 @@ impl<'a, R: Reader> Meeting<'a, R> {
             seen: 1,
             from: 1,
             place: None,
-            known: KnownFace { face: 6, end: 0 },
+            known: KnownFace::none(),
         };
         Meeting {
             reader,

@@ -1,4 +1,4 @@
-ghost use Rattle.std.specs.Prelude.{◌≡◌, ◌<◌, ◌≤◌, ◌+◌, ◌-◌, ◌%◌, ◌∷◌, ℕ, length, drop};
+ghost use Rattle.std.specs.Prelude.{◌≡◌, ◌<◌, ◌≤◌, ◌+◌, ◌∷◌, length, drop, slice_index_or};
 ghost use Rattle.s2ix_table_walk.specs.Places.{IsPlace, LeadsTo};
 ghost use Rattle.s2ix_table_walk.specs.Table.{range_at};
 ghost use Rattle.s2ix_table_walk.specs.Costs.{with_look, with_probe};
@@ -12,9 +12,12 @@ use crate::window::Window;
 use s2ix_bag_pairs::Held;
 
 /// Something that reads a range table and counts what it reads. [`node`](Reader::node) gives a pair, and is one look. [`row`](Reader::row),
-/// [`start`](Reader::start), [`sampled_start`](Reader::sampled_start), [`row_and_first`](Reader::row_and_first) and
+/// [`start`](Reader::start), [`border_start`](Reader::border_start), [`row_and_first`](Reader::row_and_first) and
 /// [`window`](Reader::window) tell where ranges begin or end, and each is one probe. The other calls count nothing, and tell no pair and
 /// no bound of a range.
+///
+/// A table may keep its ranges in parts. A *border* is the place of the range at which a part begins; the borders rise, and several parts
+/// may have one border. A table that isn't kept in parts is one, with border 0.
 pub trait Reader {
     /// Where the table keeps a pair of a chain.
     type Place: Copy;
@@ -25,18 +28,16 @@ pub trait Reader {
     // what was read so far
     ghost spent: { Self → CostSpent };
 
-    // the first range of the window that was returned last: samples are counted from it
-    ghost sampled_from: { Self → ℕ };
-
     /// How many ranges there are.
     fn range_count(&self) -> usize
         ensures { result ≡ length (shown self.now).ranges };
 
-    /// A window with all ranges over a face, 0 to 5: one probe, since it tells where some begin and end.
-    fn window(&mut self, face: u8) -> Window
+    /// A window with all ranges over a face, 0 to 5, and the borders on that face, as a window of the borders. No clause says which borders
+    /// these are: a search reads few ranges if they are those in the window. One probe, since it tells where some ranges begin and end.
+    fn window(&mut self, face: u8) -> (Window, Window)
         requires { face < 6 }
-        ensures window { HaveFace (shown self.old).ranges face result.first result.size }
-        ensures sampled { sampled_from self.new ≡ result.first }
+        ensures window { HaveFace (shown self.old).ranges face result.0.first result.0.size }
+        ensures borders { result.1.first + result.1.size ≤ length (shown self.old).borders }
         ensures same { shown self.new ≡ shown self.old }
         ensures counts { spent self.new ≡ with_probe (spent self.old) };
 
@@ -56,7 +57,6 @@ pub trait Reader {
         ensures start { result.start ≡ (range_at (shown self.old).ranges k).start }
         ensures limit { result.limit ≡ (range_at (shown self.old).ranges k).limit }
         ensures same { shown self.new ≡ shown self.old }
-        ensures sampled { sampled_from self.new ≡ sampled_from self.old }
         ensures counts { spent self.new ≡ with_probe (spent self.old) };
 
     /// Where a range begins, as [`row`](Reader::row) gives it: one probe. A search reads ranges by it.
@@ -64,31 +64,34 @@ pub trait Reader {
         requires { k < length (shown self.old).ranges }
         ensures start { result ≡ (range_at (shown self.old).ranges k).start }
         ensures same { shown self.new ≡ shown self.old }
-        ensures sampled { sampled_from self.new ≡ sampled_from self.old }
         ensures counts { spent self.new ≡ with_probe (spent self.old) }
     {
         self.row(k).start
     }
 
-    /// A range at most 15 places before the given one, or that one itself: the last one by it that lies a multiple of 16 places after the
-    /// first range of the window that was returned last. [`sampled_start`](Reader::sampled_start) is quickest at it and at every 16th range
-    /// after it.
-    fn sampled_by(&self, k: usize) -> usize
-        ensures by { result ≤ k }
-        ensures near { k < result + 16 }
-        ensures sampled { result ≡ k - (k - sampled_from self.now) % 16 };
+    /// A border: the place of the range at which a part of the table begins.
+    fn border(&self, m: usize) -> usize
+        requires { m < length (shown self.now).borders }
+        ensures { result ≡ slice_index_or (shown self.now).borders m 0 };
 
-    /// Where a range begins, as [`start`](Reader::start) gives it: one probe. A search among very many ranges first reads every 16th one so:
-    /// a reader may have their starts in a short list, which stays in the processor's cache.
-    fn sampled_start(&mut self, k: usize) -> u64
-        requires { k < length (shown self.old).ranges }
-        ensures start { result ≡ (range_at (shown self.old).ranges k).start }
+    /// Where the range at a border begins, as [`start`](Reader::start) gives it: one probe. A search among many parts first reads ranges
+    /// so: a reader may have their starts in a short list, which stays in the processor's cache.
+    fn border_start(&mut self, m: usize) -> u64
+        requires { m < length (shown self.old).borders }
+        ensures start { result ≡ (range_at (shown self.old).ranges (slice_index_or (shown self.old).borders m 0)).start }
         ensures same { shown self.new ≡ shown self.old }
-        ensures sampled { sampled_from self.new ≡ sampled_from self.old }
         ensures counts { spent self.new ≡ with_probe (spent self.old) }
     {
+        let k = self.border(m);
         self.start(k)
     }
+
+    /// Brings the part at a border to hand: the reader may be quicker at its ranges from now on. Any number is accepted. It tells nothing,
+    /// and counts nothing.
+    fn go_to(&mut self, m: usize)
+        ensures same { shown self.new ≡ shown self.old }
+        ensures counts { spent self.new ≡ spent self.old }
+    {}
 
     /// The leaves of a range and the place of its innermost pair, as [`row`](Reader::row) and [`first`](Reader::first) give them: one probe.
     fn row_and_first(&mut self, k: usize) -> (RangeRow, Option<Self::Place>)
@@ -97,7 +100,6 @@ pub trait Reader {
         ensures limit { result.0.limit ≡ (range_at (shown self.old).ranges k).limit }
         ensures first { LeadsTo (shown self.old).chain result.1 (range_at (shown self.old).ranges k).contents }
         ensures same { shown self.new ≡ shown self.old }
-        ensures sampled { sampled_from self.new ≡ sampled_from self.old }
         ensures counts { spent self.new ≡ with_probe (spent self.old) }
     {
         let first = self.first(k);
@@ -109,13 +111,12 @@ pub trait Reader {
         requires { IsPlace (shown self.old).chain place }
         ensures held { (shown self.old).chain place ≡ result ∷ drop 1 ((shown self.old).chain place) }
         ensures same { shown self.new ≡ shown self.old }
-        ensures sampled { sampled_from self.new ≡ sampled_from self.old }
         ensures counts { spent self.new ≡ with_look (spent self.old) };
 
     /// What was read so far.
     fn cost(&self) -> Cost
         ensures { result ≡ spent self.now };
 
-    // the ranges are the range table of the pairs
+    // the ranges are the range table of the pairs, and the borders some of them
     ghost is_shown: { (reader : Self) → IsShown (shown reader) };
 }

@@ -1,4 +1,4 @@
-/// A sample has every 16th start of some ranges: see [`Reader::sampled_start`](crate::Reader::sampled_start).
+/// A sample has every 16th start of some ranges, for a search among very many.
 pub const SAMPLE_STEP: usize = 16;
 
 /// A search among more ranges than this begins with a sample: their starts are too many for the processor's cache.

@@ -7,28 +7,58 @@ ghost use Rattle.s2ix_table_walk.specs.Costs.{NoFewerProbes};
 ghost use Rattle.s2ix_table_walk.specs.Searching.{IsWindow};
 ghost use Rattle.s2ix_table_walk.specs.Walking.{IsKnown};
 
+use crate::borders::in_one_part;
+use crate::narrowing::Candidates;
+use crate::power::power_within;
 use crate::reader::Reader;
-use crate::sample::{MANY_RANGES, SAMPLE_STEP};
 use crate::walk_state::KnownFace;
 use crate::window::Window;
 use s2id_core::CellId;
 
-// The range that has a leaf, of some that have it among them: each probe halves those that are left. Among few ranges no branch depends on
-// what is read.
+// A range that a walk has come to, and the face that is known there.
+#[derive(Clone, Copy)]
+pub(crate) struct Reached {
+    pub(crate) range: usize,
+    pub(crate) known: KnownFace,
+}
+
+// The range that has a leaf, of some that have it among them: each probe halves those that are left. It first reads ranges at borders,
+// until those that are left are in one part.
 #[inline(always)]
-fn search<R: Reader>(reader: &mut R, leaf: u64, among: Window) -> usize
+fn search<R: Reader>(reader: &mut R, leaf: u64, candidates: Candidates) -> Reached
     requires within { leaf < leaf_end }
-    requires among { IsWindow (R.shown reader.old).ranges leaf among.first among.size }
-    ensures found { IsFound (R.shown reader.old).ranges result leaf }
+    requires among { IsWindow (R.shown reader.old).ranges leaf candidates.among.first candidates.among.size }
+    requires known { IsKnown (R.shown reader.old) candidates.known }
+    ensures found { IsFound (R.shown reader.old).ranges result.range leaf }
+    ensures known { IsKnown (R.shown reader.old) result.known }
     ensures same { R.shown reader.new ≡ R.shown reader.old }
     ensures looks { (R.spent reader.new).looks ≡ (R.spent reader.old).looks }
     ensures kept { NoFewerProbes (R.spent reader.old) (R.spent reader.new) }
     ensures probes { (R.spent reader.new).probes
         ≤ (R.spent reader.old).probes + binary_digits (length (R.shown reader.old).ranges + 1) }
 {
-    if among.size > FAR {
-        let among = gallop(reader, leaf, among);
-        return jump(reader, leaf, among);
+    let Candidates { among, known } = in_one_part(reader, leaf, candidates);
+    let range = if among.size > FAR {
+        jump(reader, leaf, among)
+    } else {
+        halve(reader, leaf, among)
+    };
+    Reached { range, known }
+}
+
+// The range that has a leaf, one of few: each probe halves those that are left, and no branch depends on what is read.
+#[inline(always)]
+fn halve<R: Reader>(reader: &mut R, leaf: u64, among: Window) -> usize
+    requires within { leaf < leaf_end }
+    requires among { IsWindow (R.shown reader.old).ranges leaf among.first among.size }
+    ensures found { IsFound (R.shown reader.old).ranges result leaf }
+    ensures same { R.shown reader.new ≡ R.shown reader.old }
+    ensures looks { (R.spent reader.new).looks ≡ (R.spent reader.old).looks }
+    ensures kept { NoFewerProbes (R.spent reader.old) (R.spent reader.new) }
+    ensures probes { (R.spent reader.new).probes ≤ (R.spent reader.old).probes + binary_digits (among.size - 1) }
+{
+    if among.size <= 1 {
+        return among.first;
     }
     let window = narrow(reader, leaf, among);
     let mut first = window.first;
@@ -40,20 +70,22 @@ fn search<R: Reader>(reader: &mut R, leaf: u64, among: Window) -> usize
     first
 }
 
-// Of some ranges the first or the last ones, so many that halving leaves none over: the greatest power of two that there is room for.
+// Of some ranges, more than one, the first or the last ones, so many that halving leaves none over: the greatest power of two below their
+// number.
 #[inline(always)]
 fn narrow<R: Reader>(reader: &mut R, leaf: u64, among: Window) -> Window
     requires within { leaf < leaf_end }
     requires among { IsWindow (R.shown reader.old).ranges leaf among.first among.size }
+    requires more { 1 < among.size }
     ensures window { IsWindow (R.shown reader.old).ranges leaf result.first result.size }
     ensures power { (k : ℕ) × (result.size ≡ 2 ^ k) }
     ensures same { R.shown reader.new ≡ R.shown reader.old }
     ensures looks { (R.spent reader.new).looks ≡ (R.spent reader.old).looks }
     ensures kept { NoFewerProbes (R.spent reader.old) (R.spent reader.new) }
     ensures probes { (R.spent reader.new).probes + binary_digits (result.size - 1)
-        ≤ (R.spent reader.old).probes + binary_digits (length (R.shown reader.old).ranges + 1) }
+        ≤ (R.spent reader.old).probes + binary_digits (among.size - 1) }
 {
-    let size = power_within(among.size);
+    let size = power_within(among.size - 1);
     let over = among.size - size;
     let first = among.first + over * begun(reader.start(among.first + over), leaf);
     Window { first, size }
@@ -86,51 +118,14 @@ fn jump<R: Reader>(reader: &mut R, leaf: u64, among: Window) -> usize
     first
 }
 
-// Of very many ranges at most 16, and fewer ranges as they are: groups of 16 are halved, by the start of the first range of each.
-#[inline(always)]
-fn gallop<R: Reader>(reader: &mut R, leaf: u64, among: Window) -> Window
-    requires { IsWindow (R.shown reader.old).ranges leaf among.first among.size }
-    ensures window { IsWindow (R.shown reader.old).ranges leaf result.first result.size }
-    ensures same { R.shown reader.new ≡ R.shown reader.old }
-    ensures looks { (R.spent reader.new).looks ≡ (R.spent reader.old).looks }
-    ensures kept { NoFewerProbes (R.spent reader.old) (R.spent reader.new) }
-    ensures probes { (R.spent reader.new).probes + binary_digits (result.size - 1)
-        ≤ (R.spent reader.old).probes + binary_digits (length (R.shown reader.old).ranges + 1) }
-{
-    if among.size <= MANY_RANGES {
-        return among;
-    }
-    let end = among.first + among.size;
-    let mut first = reader.sampled_by(among.first);
-    let mut groups = (end - first - 1) / SAMPLE_STEP + 1;
-    while groups > 1 {
-        let middle = first + groups / 2 * SAMPLE_STEP;
-        if reader.sampled_start(middle) <= leaf {
-            first = middle;
-        }
-        groups -= groups / 2;
-    }
-    Window {
-        first,
-        size: SAMPLE_STEP.min(end - first),
-    }
-}
-
-// Some ranges, and the face that is known once they are.
-#[derive(Clone, Copy)]
-struct Candidates {
-    among: Window,
-    known: KnownFace,
-}
-
 // The ranges in which to search for a cell's first leaf: those over the cell's face, from one on that begins by that leaf. It takes one
 // probe at most: on the known face a range near at hand, on another the window of that face.
 #[inline(always)]
 fn ahead<R: Reader>(reader: &mut R, cell: CellId, from: usize, known: KnownFace) -> Candidates
-    requires known { IsKnown (R.shown reader.old).ranges known }
+    requires known { IsKnown (R.shown reader.old) known }
     requires from { from < length (R.shown reader.old).ranges }
     requires start { (range_at (R.shown reader.old).ranges from).start ≤ first_of cell }
-    ensures known { IsKnown (R.shown reader.old).ranges result.known }
+    ensures known { IsKnown (R.shown reader.old) result.known }
     ensures window { IsWindow (R.shown reader.old).ranges (first_of cell) result.among.first result.among.size }
     ensures same { R.shown reader.new ≡ R.shown reader.old }
     ensures looks { (R.spent reader.new).looks ≡ (R.spent reader.old).looks }
@@ -146,14 +141,19 @@ fn ahead<R: Reader>(reader: &mut R, cell: CellId, from: usize, known: KnownFace)
         let among = near(reader, cell.span_start(), rest);
         return Candidates { among, known };
     }
-    let window = reader.window(face);
+    let (window, borders) = reader.window(face);
     let end = window.first + window.size;
     let first = from.max(window.first);
     let among = Window {
         first,
         size: end - first,
     };
-    let known = KnownFace { face, end };
+    let known = KnownFace {
+        face,
+        end,
+        borders,
+        part_end: 0,
+    };
     Candidates { among, known }
 }
 
@@ -187,15 +187,6 @@ fn near<R: Reader>(reader: &mut R, leaf: u64, among: Window) -> Window
     }
 }
 
-// The greatest power of two that is not above a number.
-#[inline(always)]
-fn power_within(number: usize) -> usize
-    requires { 0 < number }
-    ensures { (k : ℕ) × (result ≡ 2 ^ k) × (2 ^ k ≤ number) × (number < 2 ^ k * 2) }
-{
-    1 << (63 - number.leading_zeros())
-}
-
 // 1 if what begins at a leaf number has begun by a leaf, else 0: the top bit of a difference, so that no branch depends on it.
 #[inline(always)]
 fn begun(start: u64, leaf: u64) -> usize
@@ -206,13 +197,6 @@ fn begun(start: u64, leaf: u64) -> usize
 {
     let after = leaf - leaf / 2;
     ((start / 2).wrapping_sub(after) >> 63) as usize
-}
-
-// A range that a walk has come to, and the face that is known there.
-#[derive(Clone, Copy)]
-pub(crate) struct Reached {
-    pub(crate) range: usize,
-    pub(crate) known: KnownFace,
 }
 
 // The range that has the first leaf of a cell from `seen` on: that at hand, or the one with the cell's first leaf.
@@ -226,9 +210,9 @@ pub(crate) fn range_from<R: Reader>(
 ) -> Reached
     requires beyond { seen < end_of cell }
     requires at_hand { seen < leaf_end → IsFound (R.shown reader.old).ranges range seen }
-    requires known { IsKnown (R.shown reader.old).ranges known }
+    requires known { IsKnown (R.shown reader.old) known }
     ensures found { IsFound (R.shown reader.old).ranges result.range (max seen (first_of cell)) }
-    ensures known { IsKnown (R.shown reader.old).ranges result.known }
+    ensures known { IsKnown (R.shown reader.old) result.known }
     ensures same { R.shown reader.new ≡ R.shown reader.old }
     ensures looks { (R.spent reader.new).looks ≡ (R.spent reader.old).looks }
     ensures at_hand { first_of cell ≤ seen → R.spent reader.new ≡ R.spent reader.old }
@@ -239,9 +223,7 @@ pub(crate) fn range_from<R: Reader>(
     let start = cell.span_start();
     if seen < start {
         let candidates = ahead(reader, cell, range, known);
-        let range = search(reader, start, candidates.among);
-        let known = candidates.known;
-        Reached { range, known }
+        search(reader, start, candidates)
     } else {
         Reached { range, known }
     }

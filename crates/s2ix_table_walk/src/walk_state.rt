@@ -1,4 +1,6 @@
 //! Where a walk over the ranges that a target meets stands.
+use crate::window::Window;
+
 // All leaves of the target before `seen` have been seen. `cell` is the target's first cell that may go beyond them,
 // `range` the range that has `seen`, and `place` the pair of the chain at hand that was given last, or the chain's first
 // one if none was: of the chain those pairs are new whose cells begin at `from` or later.
@@ -12,9 +14,29 @@ pub(crate) struct WalkState<P> {
     pub(crate) known: KnownFace,
 }
 
-// The face of which a walk last asked the reader for its ranges, and if these end; 6 if it has asked for none.
+// The face of which a walk last asked the reader for its ranges, and where these end; 6 if it has asked for none. `borders` are those on
+// that face that are still ahead, and `part_end` is where the part at hand ends, 0 if none is.
 #[derive(Clone, Copy)]
 pub(crate) struct KnownFace {
     pub(crate) face: u8,
     pub(crate) end: usize,
+    pub(crate) borders: Window,
+    pub(crate) part_end: usize,
+}
+
+impl KnownFace {
+    ghost use Rattle.std.specs.Prelude.{◌≡◌, ◌+◌};
+
+    // No face is known.
+    pub(crate) fn none() -> KnownFace
+        ensures face { result.face ≡ 6 }
+        ensures borders { result.borders.first + result.borders.size ≡ 0 }
+    {
+        KnownFace {
+            face: 6,
+            end: 0,
+            borders: Window { first: 0, size: 0 },
+            part_end: 0,
+        }
+    }
 }

@@ -12,14 +12,19 @@ pub overflow_add-count : goal.overflow_add-count
 overflow_add-count g c =
     let table = c.args.table.now in
     let shown : Shown g.row.T-Place.Denot =
-    record { pairs = g.T.RangeTable.pairs table; ranges = g.T.RangeTable.ranges table; chain = g.T.RangeTable.chain table } in
+    record {
+      pairs = g.T.RangeTable.pairs table;
+      ranges = g.T.RangeTable.ranges table;
+      chain = g.T.RangeTable.chain table;
+      borders = g.T.RangeTable.borders table;
+    } in
     let few =
     few_meet shown c.args.target.now
     (record {
       is_collection = g.met.T.RangeTable.is_collection table;
       is_table = g.met.T.RangeTable.is_table table;
-      few =
-          g.met.T.RangeTable.few table;
+      few = g.met.T.RangeTable.few table;
+      are_borders = g.met.T.RangeTable.are_borders table;
     }) in
     let within = c.loop-held.invariant.1 in
     omega arith

@@ -7,4 +7,4 @@ use Rattle.s2ix_table.proofs.laws.faced_table_has_few_ranges.Goals as goal
 pub returns : goal.returns
 returns c =
     let t = c.args.table.now in
-    few_ranges (held_in (spans_of t.tables)) 1 leaf_end (joined_ranges (spans_of t.tables)) t.table
+    few_ranges (held_in (spans_of t.parts.items)) 1 leaf_end (joined_ranges (spans_of t.parts.items)) t.table

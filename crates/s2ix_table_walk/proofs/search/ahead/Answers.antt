@@ -10,7 +10,7 @@ use Rattle.s2ix_table_walk.proofs.WalkSteps.{range_fits}
 use Rattle.s2ix_table_walk.proofs.Windows.{window_ahead}
 use Rattle.s2ix_table_walk.proofs.search.ahead.Given.{Over}
 use Rattle.s2ix_table_walk.proofs.search.ahead.Goals as goal
-use Rattle.s2ix_table_walk.proofs.search.ahead.Goals.{Then-face-known, After-window-window}
+use Rattle.s2ix_table_walk.proofs.search.ahead.Goals.{Then-face-known, After-window}
 
 -- the ranges over a cell's face, from one on
 rest : (hs : Collection) (ranges : List Range) (cell : CellId) (from first size begin end : ℕ) → IsRangeTable hs ranges
@@ -28,16 +28,16 @@ rest_known g c =
     let r = c.args.reader.now in
     let s = g.R.Reader.shown r in
     let same : c.args.known.face ≡ face_of c.args.cell = sym c.if-face-known.true ∙ c.face-face.ensures in
-    let have = c.requires.known (omega (arith, six_faces c.args.cell, same)) in
+    let have = c.requires.known.face (omega (arith, six_faces c.args.cell, same)) in
     rest s.pairs s.ranges c.args.cell c.args.from 0 c.args.known.end c.args.from c.args.known.end (g.met.R.Reader.is_shown r).is_table
     (subst (λ (n : ℕ). HaveFace s.ranges n 0 c.args.known.end) same have) c.requires.from c.requires.start (omega arith) (omega arith)
 
 -- those over the face that was asked for
-have_asked : (g : Over) (c : After-window-window g)
-    → HaveFace (g.R.Reader.shown c.args.reader.now).ranges (face_of c.args.cell) c.window-window.result.first c.window-window.result.size
+have_asked : (g : Over) (c : After-window g)
+    → HaveFace (g.R.Reader.shown c.args.reader.now).ranges (face_of c.args.cell) c.window.result.0.first c.window.result.0.size
 have_asked g c =
-    subst (λ (n : ℕ). HaveFace (g.R.Reader.shown c.args.reader.now).ranges n c.window-window.result.first c.window-window.result.size)
-    c.face-face.ensures c.window-window.ensures.window
+    subst (λ (n : ℕ). HaveFace (g.R.Reader.shown c.args.reader.now).ranges n c.window.result.0.first c.window.result.0.size)
+    c.face-face.ensures c.window.ensures.window
 
 pub overflow_sub-rest : goal.overflow_sub-rest
 overflow_sub-rest g c =
@@ -53,20 +53,20 @@ near-among-requires g c =
           (rest_known g (goal.at.near-among-requires g c).Then-face-known);
     }
 
-pub window-window-requires : goal.window-window-requires
-window-window-requires g c = let face = c.face-face.ensures in omega (arith, six_faces c.args.cell)
+pub window-requires : goal.window-requires
+window-requires g c = let face = c.face-face.ensures in omega (arith, six_faces c.args.cell)
 
 pub overflow_add-end : goal.overflow_add-end
 overflow_add-end g c =
     let r = c.args.reader.now in
     let s = g.R.Reader.shown r in
-    let have = have_asked g (goal.at.overflow_add-end g c).After-window-window in
+    let have = have_asked g (goal.at.overflow_add-end g c).After-window in
     let some = have.some in
     let within = have.within in
     let fits = range_fits s.pairs s.ranges (g.met.R.Reader.is_shown r).is_table
-    (c.window-window.result.first + c.window-window.result.size - 1) (omega arith) in
-    let e : c.window-window.result.first + c.window-window.result.size - 1 + 1
-    ≡ c.window-window.result.first + c.window-window.result.size =
+    (c.window.result.0.first + c.window.result.0.size - 1) (omega arith) in
+    let e : c.window.result.0.first + c.window.result.0.size - 1 + 1
+    ≡ c.window.result.0.first + c.window.result.0.size =
     omega arith in
     search (rules, fits, e)
 
@@ -74,8 +74,8 @@ pub returns-clause-window : goal.returns-clause-window
 returns-clause-window g c =
     let r = c.args.reader.now in
     let s = g.R.Reader.shown r in
-    rest s.pairs s.ranges c.args.cell c.args.from c.window-window.result.first c.window-window.result.size c.max-first.result _
-    (g.met.R.Reader.is_shown r).is_table (have_asked g (goal.at.returns-clause-window g c).After-window-window) c.requires.from
+    rest s.pairs s.ranges c.args.cell c.args.from c.window.result.0.first c.window.result.0.size c.max-first.result _
+    (g.met.R.Reader.is_shown r).is_table (have_asked g (goal.at.returns-clause-window g c).After-window) c.requires.from
     c.requires.start c.max-first.ensures refl
 
 pub overflow_sub-among : goal.overflow_sub-among

@@ -1,4 +1,4 @@
-use Rattle.std.proofs.Common.{◌≡◌, ℕ, ◌+◌, ◌-◌, ◌*◌, length, ap, arith, rules, subst}
+use Rattle.std.proofs.Common.{◌≡◌, ℕ, ◌+◌, ◌-◌, ◌*◌, ap, arith, rules, subst}
 use Rattle.s2id_core.specs.BinaryDigits.{binary_digits}
 use Rattle.s2ix_table_walk.specs.Searching.{IsWindow}
 use Rattle.s2ix_table_walk.specs.declared.cost.Cost.{Cost}
@@ -28,7 +28,7 @@ returns-clause-probes g c =
     let le = power.2 in
     let probes = ap (λ (z : Cost). z.probes) c.start.ensures.counts in
     let same = ap (λ (size : ℕ). binary_digits (size - 1)) power.1 in
-    omega (arith, digits_above power.0 (length (g.R.Reader.shown c.args.reader.now).ranges + 1) (omega arith))
+    omega (arith, digits_above power.0 (c.args.among.size - 1) (omega arith))
 
 pub overflow_add-among : goal.overflow_add-among
 overflow_add-among g c =

@@ -3,8 +3,8 @@ use Rattle.s2id_core.specs.CellId.{raw_of, first_of}
 use Rattle.s2id_core.proofs.Nested.{span}
 use Rattle.s2ix_table_walk.proofs.search.range_from.Goals as goal
 
-pub search-range-requires-clause-within : goal.search-range-requires-clause-within
-search-range-requires-clause-within g c =
+pub search-requires-clause-within : goal.search-requires-clause-within
+search-requires-clause-within g c =
     let s = span (raw_of c.args.cell) c.args.cell.valid in
     omega (arith, s.ends, s.from, s.to, c.span_start-start.ensures)
 

@@ -7,20 +7,50 @@ use Rattle.s2ix_bag_pairs.specs.declared.pair.Entry.{Entry}
 use Rattle.s2ix_bag_pairs.proofs.Changes.{change_lower}
 use Rattle.s2ix_bag_lists.specs.Faces.{face_start}
 use Rattle.s2ix_bag_lists.proofs.FaceByFace.{Changing, IsOwnChange, changing_own, changing_step, changing_end}
+use Rattle.s2ix_bag_lists.proofs.FaceParts.{own_few}
 use Rattle.s2ix_bag_lists.proofs.lists.FaceLists.after.Goals as goal
 
 pub entries_up_to-requires : goal.entries_up_to-requires
 entries_up_to-requires c = change_lower 0 (face_start c.loop-face.face) c.loop-face.rest.now (omega arith) c.loop-face.invariant.rises
 
-pub apply-requires : goal.apply-requires
-apply-requires c =
-    let short : c.loop-face.face < length c.loop-face.lists = omega (arith, c.loop-face.invariant.six) in
+pub after-requires-clause-entries_rise : goal.after-requires-clause-entries_rise
+after-requires-clause-entries_rise c =
+    let ls = c.loop-face.lists in
+    let face = c.loop-face.face in
+    let rest = c.loop-face.rest.now in
+    let k = c.entries_up_to.result in
+    let short : face < length ls = omega (arith, c.loop-face.invariant.six) in
+    let held = sym (get_or_default ls face [] c.index-lists-face.result short) in
     let own =
-    changing_own c.args.self.now c.args.entries.now c.loop-face.face c.loop-face.lists c.loop-face.rest.now c.entries_up_to.result
-    (omega arith) c.loop-face.invariant c.entries_up_to.ensures.below in
-    let held = sym (get_or_default c.loop-face.lists c.loop-face.face [] c.index-lists-face.result short) in
+    changing_own c.args.self.now c.args.entries.now face ls rest k (omega arith) c.loop-face.invariant c.entries_up_to.ensures.below in
     let is = subst₂ IsOwnChange (sym held) (sym c.split_at.ensures.front) own in
-    record { held_rise = is.held_rise; entries_rise = is.entries_rise; before = is.before }
+    is.entries_rise
+
+pub after-requires-clause-before : goal.after-requires-clause-before
+after-requires-clause-before c =
+    let ls = c.loop-face.lists in
+    let face = c.loop-face.face in
+    let rest = c.loop-face.rest.now in
+    let k = c.entries_up_to.result in
+    let short : face < length ls = omega (arith, c.loop-face.invariant.six) in
+    let held = sym (get_or_default ls face [] c.index-lists-face.result short) in
+    let own =
+    changing_own c.args.self.now c.args.entries.now face ls rest k (omega arith) c.loop-face.invariant c.entries_up_to.ensures.below in
+    let is = subst₂ IsOwnChange (sym held) (sym c.split_at.ensures.front) own in
+    is.before
+
+pub after-requires-clause-few : goal.after-requires-clause-few
+after-requires-clause-few c =
+    let ls = c.loop-face.lists in
+    let face = c.loop-face.face in
+    let rest = c.loop-face.rest.now in
+    let k = c.entries_up_to.result in
+    let short : face < length ls = omega (arith, c.loop-face.invariant.six) in
+    let held = sym (get_or_default ls face [] c.index-lists-face.result short) in
+    let few = own_few c.args.self.now c.args.entries.now face ls rest k (omega arith) c.loop-face.invariant
+    c.entries_up_to.ensures.below c.entries_up_to.ensures.rest in
+    let same = ap₂ (λ (hs : Collection) (es : List Entry). length (changed hs es)) held c.split_at.ensures.front in
+    omega (arith, few, same, c.requires.few)
 
 pub loop-face-preserved : goal.loop-face-preserved
 loop-face-preserved c =
@@ -31,7 +61,7 @@ loop-face-preserved c =
     c.loop-face.invariant c.entries_up_to.ensures.below c.entries_up_to.ensures.rest in
     let short : face < length ls = omega (arith, c.loop-face.invariant.six) in
     let held = sym (get_or_default ls face [] c.index-lists-face.result short) in
-    let own = c.in_ok-apply.ensures ∙ ap₂ (λ hs es. changed hs es) held c.split_at.ensures.front in
+    let own = c.in_ok-lists-2.ensures ∙ ap₂ (λ hs es. changed hs es) held c.split_at.ensures.front in
     let Next : Collection → List Entry → Type 0 = λ new later. Changing c.args.self.now c.args.entries.now (face + 1) (set ls face new) later in
     subst₂ Next (sym own) (sym c.split_at.ensures.back) next
 

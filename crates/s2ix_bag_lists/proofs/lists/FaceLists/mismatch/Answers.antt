@@ -14,26 +14,12 @@ use Rattle.s2ix_bag_lists.proofs.lists.FaceLists.mismatch.Goals as goal
 pub entries_up_to-requires : goal.entries_up_to-requires
 entries_up_to-requires c = change_lower 0 (face_start c.loop-face.face) c.loop-face.rest.now (omega arith) c.loop-face.invariant.rises
 
-pub first_mismatch-requires-clause-held_rise : goal.first_mismatch-requires-clause-held_rise
-first_mismatch-requires-clause-held_rise c =
-    let ls = c.self.inside.lists in
-    let face = c.loop-face.face in
-    let short : face < length ls = omega (arith, c.self.invariant.six) in
-    let own = c.as_slice.ensures ∙ sym (get_or_default ls face [] c.index-self-face.result short) in
-    list_rises ls face c.as_slice.result.now short c.self.invariant.apart own
-
-pub first_mismatch-requires-clause-entries_rise : goal.first_mismatch-requires-clause-entries_rise
-first_mismatch-requires-clause-entries_rise c =
-    let own = own_of_face c.loop-face.face c.entries_up_to.result c.loop-face.rest.now c.loop-face.invariant.rises in
-    subst (λ (es : List Entry). IsChangeList es) (sym c.split_at.ensures.front)
-    (change_lower 0 (face_start c.loop-face.face) _ (omega arith) own)
-
 pub returns-in-Some : goal.returns-in-Some
 returns-in-Some c =
     let ls = c.self.inside.lists in
     let face = c.loop-face.face in
     let short : face < length ls = omega (arith, c.self.invariant.six) in
-    let own = c.as_slice.ensures ∙ sym (get_or_default ls face [] c.index-self-face.result short) in
+    let own = sym (get_or_default ls face [] c.index-self-face.result short) in
     let Found : Collection → List Entry → Type 0 = λ hs es. Some c.in-Some.place ≡ position (is_mismatch hs) es in
     let found = subst₂ Found own c.split_at.ensures.front c.in-Some.ensures in
     sym (compared_found ls c.args.entries.now face c.loop-face.rest.now c.loop-face.passed c.entries_up_to.result c.in-Some.place short
@@ -45,7 +31,7 @@ loop-face-preserved c =
     let ls = c.self.inside.lists in
     let face = c.loop-face.face in
     let short : face < length ls = omega (arith, c.self.invariant.six) in
-    let own = c.as_slice.ensures ∙ sym (get_or_default ls face [] c.index-self-face.result short) in
+    let own = sym (get_or_default ls face [] c.index-self-face.result short) in
     let Absent : Collection → List Entry → Type 0 = λ hs es. None ≡ position (is_mismatch hs) es in
     let none = subst₂ Absent own c.split_at.ensures.front c.in_default.ensures in
     let next =

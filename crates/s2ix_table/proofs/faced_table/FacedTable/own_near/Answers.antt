@@ -1,21 +1,37 @@
-use Rattle.std.proofs.Common.{◌+◌, ◌-◌, ◌%◌, ◌<◌, get_or, refl, arith}
-use Rattle.s2ix_table.proofs.Counts.{IsInner, inner_near}
+use Rattle.std.proofs.Common.{◌<◌, length, refl, ◌∙◌, ap, arith}
+use Rattle.s2ix_table_spans.specs.SpanTable.{SpanRanges}
+use Rattle.s2ix_table.specs.declared.offset.Offset.{Offset}
+use Rattle.s2ix_table.specs.FaceSpans.{spans_of}
+use Rattle.s2ix_table.proofs.Counts.{inner_near}
+use Rattle.s2ix_table.proofs.Reading.{many_offsets, offset_read, ends_few}
+use Rattle.s2ix_table.proofs.Shared.{many_shared}
 use Rattle.s2ix_table.proofs.faced_table.FacedTable.own_near.Goals as goal
 
-inner : (c : goal.Then-past-self)
-    → IsInner c.args.self.now.offsets c.args.self.now.count c.args.k c.args.near
-    ((c.args.k + (18446744073709551616 - get_or c.args.self.now.inner_from c.args.near 0)) % 18446744073709551616)
-inner c =
+pub index-requires : goal.index-requires
+index-requires c =
     let t = c.args.self.now in
-    let some = c.if-near-ge-FACES.false in
-    let within : c.args.near < 6 = omega (arith, some) in
-    inner_near _ t.offsets t.inner_from t.inner t.count c.args.k c.args.near _ t.placed within c.ranges.k.fits refl c.if-past-self.true
+    let some = c.if-near-len.false in
+    let len = c.len.ensures in
+    omega (arith, some, many_shared t.parts.items, many_offsets t.joined, t.parts.ok.0, t.offsets.ok.0)
 
-pub returns-then-past-self-clause-own : goal.returns-then-past-self-clause-own
-returns-then-past-self-clause-own c = (inner c).own
+pub overflow_add-past : goal.overflow_add-past
+overflow_add-past c =
+    let t = c.args.self.now in
+    let some = c.if-near-len.false in
+    let len = c.len.ensures in
+    let within : c.args.near < length (spans_of t.parts.items) = omega (arith, some, many_shared t.parts.items, t.parts.ok.0) in
+    let is = offset_read c.args.near c.index.result.now t.joined within c.index.ensures in
+    omega (arith, ends_few c.args.near t.joined within, ap (λ (o : Offset). o.place) is)
 
-pub returns-then-past-self-clause-next : goal.returns-then-past-self-clause-next
-returns-then-past-self-clause-next c = (inner c).next
-
-pub returns-then-past-self-clause-place : goal.returns-then-past-self-clause-place
-returns-then-past-self-clause-place c = (inner c).place
+pub returns-then-past-saturating_sub-clause-place : goal.returns-then-past-saturating_sub-clause-place
+returns-then-past-saturating_sub-clause-place c =
+    let t = c.args.self.now in
+    let some = c.if-near-len.false in
+    let len = c.len.ensures in
+    let within : c.args.near < length (spans_of t.parts.items) = omega (arith, some, many_shared t.parts.items, t.parts.ok.0) in
+    let is = offset_read c.args.near c.index.result.now t.joined within c.index.ensures in
+    let many = c.range_count.ensures ∙ ap (λ (s : SpanRanges). length s.ranges) c.span.ensures in
+    let less = c.if-past-saturating_sub.true in
+    let inner = c.saturating_sub.ensures in
+    (inner_near c.args.k c.args.near _ c.range_count.result c.index.result.now t.joined within many is c.ranges.k.fits refl
+    (omega (arith, less, inner))).place

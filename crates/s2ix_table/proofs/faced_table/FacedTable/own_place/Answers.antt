@@ -1,31 +1,60 @@
-use Rattle.std.proofs.Common.{◌-◌, get_or, arith}
-use Rattle.s2ix_table.proofs.Counts.{IsOwnOf, own_of}
-use Rattle.s2ix_table.proofs.Reading.{no_offset, in_order, first_place}
+use Rattle.std.proofs.Common.{◌≡◌, ◌-◌, List, length, slice_index_or, sym, ap, subst, arith}
+use Rattle.s2ix_table_spans.specs.Starts.{IsLastStart}
+use Rattle.s2ix_table.specs.declared.offset.Offset.{Offset}
+use Rattle.s2ix_table.specs.FaceSpans.{spans_of}
+use Rattle.s2ix_table.specs.Offsets.{places_of, place_on, HasOwn, HasRange}
+use Rattle.s2ix_table.proofs.Counts.{own_of, last_listed}
+use Rattle.s2ix_table.proofs.Reading.{first_place, some_parts, many_offsets, offset_read}
 use Rattle.s2ix_table.proofs.faced_table.FacedTable.own_place.Goals as goal
 
-pub offset_by-face-requires-clause-order : goal.offset_by-face-requires-clause-order
-offset_by-face-requires-clause-order c =
+pub offset_by-part-requires-clause-some : goal.offset_by-part-requires-clause-some
+offset_by-part-requires-clause-some c =
     let t = c.args.self.now in
-    in_order _ t.offsets t.count t.placed.joined
+    omega (arith, some_parts t.joined, many_offsets t.joined, ap (λ (os : List Offset). length os) c.deref.ensures.value)
 
-pub offset_by-face-requires-clause-first : goal.offset_by-face-requires-clause-first
-offset_by-face-requires-clause-first c =
-    let t = c.args.self.now in
-    first_place _ t.offsets t.count t.placed.joined
+pub offset_by-part-requires-clause-first : goal.offset_by-part-requires-clause-first
+offset_by-part-requires-clause-first c =
+    let first = first_place c.args.self.now.joined in
+    omega (arith, first, ap (λ (os : List Offset). slice_index_or (places_of os) 0 0) c.deref.ensures.value)
 
-found : (c : goal.After-offset_by-face)
-    → IsOwnOf c.args.self.now.offsets c.args.self.now.count c.args.k c.offset_by-face.result
-    (c.args.k - (get_or c.args.self.now.offsets c.offset_by-face.result no_offset).place)
-found c =
+pub index-requires : goal.index-requires
+index-requires c =
     let t = c.args.self.now in
-    let last = c.offset_by-face.ensures in
-    own_of _ t.offsets t.count c.args.k c.offset_by-face.result t.placed.joined last.within last.last c.requires
+    let part = c.offset_by-part.result in
+    let last = subst (λ (os : List Offset). IsLastStart (places_of os) c.args.k part) c.deref.ensures.value c.offset_by-part.ensures in
+    omega (arith, last_listed part t.joined last, many_offsets t.joined, t.offsets.ok.0)
 
 pub overflow_sub-result : goal.overflow_sub-result
-overflow_sub-result c = let from = (found c).from in omega arith
+overflow_sub-result c =
+    let t = c.args.self.now in
+    let part = c.offset_by-part.result in
+    let last = subst (λ (os : List Offset). IsLastStart (places_of os) c.args.k part) c.deref.ensures.value c.offset_by-part.ensures in
+    let is = offset_read part c.index.result.now t.joined (last_listed part t.joined last) c.index.ensures in
+    omega (arith, (own_of c.args.k part t.joined last c.requires).from, ap (λ (o : Offset). o.place) is)
+
+pub returns-clause-range : goal.returns-clause-range
+returns-clause-range c =
+    let t = c.args.self.now in
+    let part = c.offset_by-part.result in
+    let last = subst (λ (os : List Offset). IsLastStart (places_of os) c.args.k part) c.deref.ensures.value c.offset_by-part.ensures in
+    let is = offset_read part c.index.result.now t.joined (last_listed part t.joined last) c.index.ensures in
+    subst (λ (o : Offset). HasRange (spans_of t.parts.items) part (c.args.k - o.place)) (sym is)
+    (own_of c.args.k part t.joined last c.requires).range
 
 pub returns-clause-own : goal.returns-clause-own
-returns-clause-own c = (found c).has
+returns-clause-own c =
+    let t = c.args.self.now in
+    let part = c.offset_by-part.result in
+    let last = subst (λ (os : List Offset). IsLastStart (places_of os) c.args.k part) c.deref.ensures.value c.offset_by-part.ensures in
+    let is = offset_read part c.index.result.now t.joined (last_listed part t.joined last) c.index.ensures in
+    subst (λ (o : Offset). HasOwn t.offsets.items t.count part (c.args.k - o.place)) (sym is)
+    (own_of c.args.k part t.joined last c.requires).has
 
 pub returns-clause-place : goal.returns-clause-place
-returns-clause-place c = (found c).place
+returns-clause-place c =
+    let t = c.args.self.now in
+    let part = c.offset_by-part.result in
+    let last = subst (λ (os : List Offset). IsLastStart (places_of os) c.args.k part) c.deref.ensures.value c.offset_by-part.ensures in
+    let is = offset_read part c.index.result.now t.joined (last_listed part t.joined last) c.index.ensures in
+    subst (λ (o : Offset). place_on t.offsets.items part (c.args.k - o.place) ≡ c.args.k) (sym is)
+    (own_of c.args.k part t.joined last c.requires).place

@@ -11,16 +11,17 @@ use Rattle.s2ix_table.proofs.faced_table.FacedTable.rebuilt.Goals as goal
 pub together-requires-clause-few : goal.together-requires-clause-few
 together-requires-clause-few g c =
     let few = (g.met.B.PairReader.is_read c.args.bag.now).few in
-    let len = ap length c.in_ok-tables.ensures.tables.pairs in
+    let len = ap length c.in_ok-parts.ensures.parts.pairs in
     omega (arith, few, len)
 
 pub returns-clause-pairs : goal.returns-clause-pairs
-returns-clause-pairs g c = ap (λ tables. held_in (spans_of tables)) c.together.ensures ∙ c.in_ok-tables.ensures.tables.pairs
+returns-clause-pairs g c = ap held_in c.in_ok-table.ensures ∙ c.in_ok-parts.ensures.parts.pairs
 
 pub returns-clause-table : goal.returns-clause-table
 returns-clause-table g c =
-    let pairs = ap (λ tables. held_in (spans_of tables)) c.together.ensures ∙ c.in_ok-tables.ensures.tables.pairs in
-    subst (λ (hs : Collection). IsRangeTable hs (joined_ranges (spans_of c.together.result.tables))) pairs c.together.result.table
+    let pairs = ap held_in c.in_ok-table.ensures ∙ c.in_ok-parts.ensures.parts.pairs in
+    let table = c.in_ok-table.table in
+    subst (λ (hs : Collection). IsRangeTable hs (joined_ranges (spans_of table.parts.items))) pairs table.table
 
 pub returns-clause-reads_all : goal.returns-clause-reads_all
 returns-clause-reads_all g c =
@@ -28,7 +29,7 @@ returns-clause-reads_all g c =
     let hs = g.B.PairReader.shown c.args.bag.now in
     let is = g.met.B.PairReader.is_read c.args.bag.now in
     let after = g.B.PairReader.spent c.tables_after.new.reader in
-    let reads = subst (λ n. AreChangedRead change hs n after) c.requires.unread c.in_ok-tables.ensures.reads in
+    let reads = subst (λ n. AreChangedRead change hs n after) c.requires.unread c.in_ok-parts.ensures.reads in
     (few_reads change hs (changed_count change hs) after is reads).0
 
 pub returns-clause-reads_few : goal.returns-clause-reads_few
@@ -41,8 +42,18 @@ returns-clause-reads_few g c =
     let reads = subst (λ n. HasRead 0 most n after) c.requires.unread c.tables_after.ensures.refused in
     (few_reads change hs 0 after is reads).1
 
-pub returns-in_err-tables-clause-reads_few : goal.returns-in_err-tables-clause-reads_few
-returns-in_err-tables-clause-reads_few g c =
+pub returns-in_err-parts-clause-reads_few : goal.returns-in_err-parts-clause-reads_few
+returns-in_err-parts-clause-reads_few g c =
+    let change = c.args.change.now in
+    let hs = g.B.PairReader.shown c.args.bag.now in
+    let is = g.met.B.PairReader.is_read c.args.bag.now in
+    let after = g.B.PairReader.spent c.tables_after.new.reader in
+    let most = changed_count change hs + 6 * two_searches hs in
+    let reads = subst (λ n. HasRead 0 most n after) c.requires.unread c.tables_after.ensures.refused in
+    (few_reads change hs 0 after is reads).1
+
+pub returns-in_err-table-clause-reads_few : goal.returns-in_err-table-clause-reads_few
+returns-in_err-table-clause-reads_few g c =
     let change = c.args.change.now in
     let hs = g.B.PairReader.shown c.args.bag.now in
     let is = g.met.B.PairReader.is_read c.args.bag.now in

@@ -1,11 +1,11 @@
 use Rattle.std.proofs.Common.{◌<◌, drop, length, sym, ◌∙◌, ap, subst}
 use Rattle.s2ix_bag_pairs.specs.Collection.{Collection}
 use Rattle.s2ix_table_walk.proofs.Leads.{leads_none}
-use Rattle.s2ix_table.proofs.Reading.{face_of_place, chain_read, lead_on}
+use Rattle.s2ix_table.proofs.Reading.{part_of_place, chain_read, lead_on}
 use Rattle.s2ix_table.proofs.faced_table.FacedTableRangeTable.outer.Goals as goal
 
 pub span-requires : goal.span-requires
-span-requires c = face_of_place _ _ _ c.args.self.now.placed.joined.six c.requires
+span-requires c = part_of_place _ _ _ c.requires
 
 pub outer-requires : goal.outer-requires
 outer-requires c = subst (λ (hs : Collection). 0 < length hs) (sym (chain_read _ _ _ c.span.ensures)) c.requires

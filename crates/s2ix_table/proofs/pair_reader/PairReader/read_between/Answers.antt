@@ -3,6 +3,7 @@ use Rattle.std.proofs.Common.{◌≡◌, ℕ, ◌-◌, [], ◌∷◌, ◌++◌, 
 use Rattle.std.proofs.lemmas.Result.{IfOk-weaker}
 use Rattle.s2ix_table.specs.Reading.{with_reads}
 use Rattle.s2ix_table.proofs.OneByOne.{none_yet, read_more, read_so_far, with_next}
+use Rattle.s2ix_table.proofs.ReadBlocks.{between_rises, between_few}
 use Rattle.s2ix_table.proofs.pair_reader.PairReader.read_between.Goals as goal
 
 pub loop-place-init : goal.loop-place-init
@@ -27,6 +28,24 @@ loop-place-preserved g c =
     read_more _ _ _ _ _ _ _ _ _ _ _ c.read.result c.requires.within c.loop-place.invariant c.loop-place-test.true c.read.ensures.held
     c.read.ensures.same c.read.ensures.counts (c.in_ok-push.ensures.items ∙ ap (λ x. c.loop-place.held.items ++ x ∷ []) c.new.ensures)
 
+pub new-requires-2-clause-rises : goal.new-requires-2-clause-rises
+new-requires-2-clause-rises g c =
+    let hs = g.Self.PairReader.shown c.args.self.now in
+    let is = g.met.Self.PairReader.is_read c.args.self.now in
+    let i = c.loop-place.invariant in
+    between_rises hs c.deref.result.now c.args.from (c.loop-place.place - c.args.from) is.is_collection
+    (c.deref.ensures.value ∙ i.copied.pairs)
+
+pub new-requires-2-clause-few : goal.new-requires-2-clause-few
+new-requires-2-clause-few g c =
+    let hs = g.Self.PairReader.shown c.args.self.now in
+    let is = g.met.Self.PairReader.is_read c.args.self.now in
+    let i = c.loop-place.invariant in
+    let ends = i.copied.ends in
+    let within = c.requires.within in
+    between_few hs c.deref.result.now c.args.from c.loop-place.place is.few i.copied.begins (omega arith)
+    (c.deref.ensures.value ∙ i.copied.pairs)
+
 pub returns-clause-pairs : goal.returns-clause-pairs
 returns-clause-pairs g c =
     let hs = g.Self.PairReader.shown c.args.self.now in
@@ -35,7 +54,7 @@ returns-clause-pairs g c =
     let past = c.loop-place-test.false in
     let all : c.loop-place.place ≡ c.args.to = omega arith in
     IfOk-weaker c.new-2.result _ _
-    (λ held made. made ∙ i.copied.pairs ∙ ap (λ (n : ℕ). take (n - c.args.from) (drop c.args.from hs)) all) c.new-2.ensures
+    (λ held made. made ∙ c.deref.ensures.value ∙ i.copied.pairs ∙ ap (λ (n : ℕ). take (n - c.args.from) (drop c.args.from hs)) all) c.new-2.ensures
 
 pub returns-clause-same : goal.returns-clause-same
 returns-clause-same g c = c.loop-place.invariant.same

@@ -1,0 +1,62 @@
+-- A search among parts by their first pairs.
+use Rattle.std.proofs.Common.{◌≡◌, ℕ, zero, suc, ◌+◌, ◌<◌, ◌≤◌, List, [], ◌∷◌, ◌++◌, take, drop, get_or, length, slice_get, Some, sym, ap, ◌∙◌, subst, arith}
+use Rattle.std.proofs.lemmas.List.{drop_all}
+use Rattle.s2ix_bag_pairs.specs.Collection.{Collection, IsCollection, IsCollectionFrom, AreBelow}
+use Rattle.s2ix_bag_pairs.specs.Pair.{rank_of}
+use Rattle.s2ix_bag_pairs.specs.declared.pair.Held.{Held}
+use Rattle.s2ix_bag_lists.specs.Faces.{all_of}
+use Rattle.s2ix_bag_lists.proofs.Joined.{below_more}
+use Rattle.s2ix_bag_lists.proofs.Joins.{all_split, front_below, back_rises}
+
+-- where the first pair of a part is, the part's later pairs follow
+pub begins_with : (ps : List Collection) (i : ℕ) (h : Held) → i < length ps → slice_get (get_or ps i []) 0 ≡ Some h
+    → (rest : Collection) × (all_of (drop i ps) ≡ h ∷ rest)
+begins_with [] i h within is = absurd (omega arith)
+begins_with ([] ∷ ps) zero h within is = cc
+begins_with ((x ∷ xs) ∷ ps) zero h within is =
+    let same : x ≡ h = cc in (xs ++ all_of ps, ap (λ (y : Held). y ∷ (xs ++ all_of ps)) same)
+begins_with (p ∷ ps) (suc i) h within is = begins_with ps i h (omega arith) is
+
+-- the pair lies in the parts from low on, and before those from high on
+pub record Narrowed (ps : List Collection) (rank low high : ℕ) : Type 0 where
+  pub some : low < high
+  pub within : high ≤ length ps
+  pub below : AreBelow rank (all_of (take low ps))
+  pub rest : IsCollectionFrom (rank + 1) (all_of (drop high ps))
+
+pub narrowed_start : (ps : List Collection) (rank high : ℕ) → 0 < length ps → high ≡ length ps → Narrowed ps rank 0 high
+narrowed_start ps rank high some is =
+    let none : drop high ps ≡ [] = drop_all high ps (omega arith) in
+    record {
+      some = omega arith;
+      within = omega arith;
+      below = tt;
+      rest = subst (λ (x : List Collection). IsCollectionFrom (rank + 1) (all_of x)) (sym none) tt;
+    }
+
+pub narrowed_low : (ps : List Collection) (rank low high middle : ℕ) (h : Held) → IsCollection (all_of ps) → Narrowed ps rank low high
+    → middle < high → slice_get (get_or ps middle []) 0 ≡ Some h → rank_of h.pair ≤ rank → Narrowed ps rank middle high
+narrowed_low ps rank low high middle h rises was lt is le =
+    let begins = begins_with ps middle h (omega (arith, was.within)) is in
+    let all = all_split middle ps ∙ ap (λ x. all_of (take middle ps) ++ x) begins.1 in
+    let parted = subst (λ (x : Collection). IsCollection x) all rises in
+    record {
+      some = lt;
+      within = was.within;
+      below = below_more (rank_of h.pair) rank (all_of (take middle ps)) le (front_below 0 (all_of (take middle ps)) h begins.0 parted);
+      rest = was.rest;
+    }
+
+pub narrowed_high : (ps : List Collection) (rank low high middle : ℕ) (h : Held) → IsCollection (all_of ps) → Narrowed ps rank low high
+    → low < middle → middle < high → slice_get (get_or ps middle []) 0 ≡ Some h → rank < rank_of h.pair → Narrowed ps rank low middle
+narrowed_high ps rank low high middle h rises was low_lt lt is after =
+    let begins = begins_with ps middle h (omega (arith, was.within)) is in
+    let all = all_split middle ps ∙ ap (λ x. all_of (take middle ps) ++ x) begins.1 in
+    let parted = subst (λ (x : Collection). IsCollection x) all rises in
+    let back = back_rises 0 (all_of (take middle ps)) (h ∷ begins.0) parted in
+    record {
+      some = low_lt;
+      within = omega (arith, was.within);
+      below = was.below;
+      rest = subst (λ (x : Collection). IsCollectionFrom (rank + 1) x) (sym begins.1) (omega (arith, after), back.1, back.2);
+    }

@@ -1,0 +1,125 @@
+-- Each step changes the part that the first of the entries that are left falls into.
+use Rattle.std.proofs.Common.{◌≡◌, ◌+◌, ◌++◌, [], List, take, drop, get_or, length, sym, ap, ap₂, ◌∙◌, subst, subst₂, arith}
+use Rattle.std.proofs.lemmas.List.{get_or_default}
+use Rattle.s2ix_bag_pairs.specs.Change.{changed}
+use Rattle.s2ix_bag_pairs.specs.Collection.{Collection}
+use Rattle.s2ix_bag_pairs.specs.Pair.{rank_of}
+use Rattle.s2ix_bag_pairs.specs.declared.pair.Entry.{Entry}
+use Rattle.s2ix_bag_lists.specs.Faces.{all_of}
+use Rattle.s2ix_bag_lists.specs.Parts.{AreFilled}
+use Rattle.s2ix_bag_lists.proofs.FaceByFace.{IsOwnChange}
+use Rattle.s2ix_bag_lists.proofs.Joins.{filled_take}
+use Rattle.s2ix_bag_lists.proofs.Making.{Making, IsNext, begins_from, making_own, making_step}
+use Rattle.s2ix_bag_lists.proofs.parts_after.parts_after.Goals as goal
+
+pub add_all-requires-clause-some : goal.add_all-requires-clause-some
+add_all-requires-clause-some c =
+    subst (λ (x : List Collection). AreFilled x) (sym c.split_at.ensures.front)
+    (filled_take c.part_of-place.result c.loop-first.ahead.now c.loop-first.invariant.filled)
+
+pub add_changed-requires-clause-held_rise : goal.add_changed-requires-clause-held_rise
+add_changed-requires-clause-held_rise c =
+    let all = all_of c.args.parts.now in
+    let es = c.args.entries.now in
+    let out = c.loop-first.after.items in
+    let ahead = c.loop-first.ahead.now in
+    let rest = c.loop-first.rest.now in
+    let i = c.part_of-place.result in
+    let k = c.entries_up_to_part.result in
+    let e = c.in-Some.first.now in
+    let rank = rank_of e.pair in
+    let was = c.loop-first.invariant in
+    let next : IsNext ahead rest rank i k = record {
+      within = c.part_of-place.ensures.within;
+      below = c.part_of-place.ensures.below;
+      from = begins_from rest e was.entries_rise (sym c.in-Some.ensures.value);
+      cut = c.entries_up_to_part.ensures.cut;
+      few = c.entries_up_to_part.ensures.within;
+      last = c.entries_up_to_part.ensures.last;
+    } in
+    let part = c.index-ahead-place.is ∙ get_or_default ahead i c.index-ahead-place.result [] next.within in
+    let own = making_own all es out ahead rest rank i k was next in
+    let is = subst₂ IsOwnChange (sym part) (sym c.split_at-in-Some.ensures.front) own in
+    is.held_rise
+
+pub add_changed-requires-clause-entries_rise : goal.add_changed-requires-clause-entries_rise
+add_changed-requires-clause-entries_rise c =
+    let all = all_of c.args.parts.now in
+    let es = c.args.entries.now in
+    let out = c.loop-first.after.items in
+    let ahead = c.loop-first.ahead.now in
+    let rest = c.loop-first.rest.now in
+    let i = c.part_of-place.result in
+    let k = c.entries_up_to_part.result in
+    let e = c.in-Some.first.now in
+    let rank = rank_of e.pair in
+    let was = c.loop-first.invariant in
+    let next : IsNext ahead rest rank i k = record {
+      within = c.part_of-place.ensures.within;
+      below = c.part_of-place.ensures.below;
+      from = begins_from rest e was.entries_rise (sym c.in-Some.ensures.value);
+      cut = c.entries_up_to_part.ensures.cut;
+      few = c.entries_up_to_part.ensures.within;
+      last = c.entries_up_to_part.ensures.last;
+    } in
+    let part = c.index-ahead-place.is ∙ get_or_default ahead i c.index-ahead-place.result [] next.within in
+    let own = making_own all es out ahead rest rank i k was next in
+    let is = subst₂ IsOwnChange (sym part) (sym c.split_at-in-Some.ensures.front) own in
+    is.entries_rise
+
+pub add_changed-requires-clause-before : goal.add_changed-requires-clause-before
+add_changed-requires-clause-before c =
+    let all = all_of c.args.parts.now in
+    let es = c.args.entries.now in
+    let out = c.loop-first.after.items in
+    let ahead = c.loop-first.ahead.now in
+    let rest = c.loop-first.rest.now in
+    let i = c.part_of-place.result in
+    let k = c.entries_up_to_part.result in
+    let e = c.in-Some.first.now in
+    let rank = rank_of e.pair in
+    let was = c.loop-first.invariant in
+    let next : IsNext ahead rest rank i k = record {
+      within = c.part_of-place.ensures.within;
+      below = c.part_of-place.ensures.below;
+      from = begins_from rest e was.entries_rise (sym c.in-Some.ensures.value);
+      cut = c.entries_up_to_part.ensures.cut;
+      few = c.entries_up_to_part.ensures.within;
+      last = c.entries_up_to_part.ensures.last;
+    } in
+    let part = c.index-ahead-place.is ∙ get_or_default ahead i c.index-ahead-place.result [] next.within in
+    let own = making_own all es out ahead rest rank i k was next in
+    let is = subst₂ IsOwnChange (sym part) (sym c.split_at-in-Some.ensures.front) own in
+    is.before
+
+pub loop-first-preserved : goal.loop-first-preserved
+loop-first-preserved c =
+    let all = all_of c.args.parts.now in
+    let es = c.args.entries.now in
+    let out = c.loop-first.after.items in
+    let ahead = c.loop-first.ahead.now in
+    let rest = c.loop-first.rest.now in
+    let i = c.part_of-place.result in
+    let k = c.entries_up_to_part.result in
+    let e = c.in-Some.first.now in
+    let rank = rank_of e.pair in
+    let was = c.loop-first.invariant in
+    let next : IsNext ahead rest rank i k = record {
+      within = c.part_of-place.ensures.within;
+      below = c.part_of-place.ensures.below;
+      from = begins_from rest e was.entries_rise (sym c.in-Some.ensures.value);
+      cut = c.entries_up_to_part.ensures.cut;
+      few = c.entries_up_to_part.ensures.within;
+      last = c.entries_up_to_part.ensures.last;
+    } in
+    let part = c.index-ahead-place.is ∙ get_or_default ahead i c.index-ahead-place.result [] next.within in
+    let new = c.add_changed.new.out.items in
+    let made : all_of new ≡ (all_of out ++ all_of (take i ahead)) ++ changed (get_or ahead i []) (take k rest) =
+    c.in_ok-add_changed.ensures.made
+    ∙ ap (λ (hs : Collection). hs ++ changed c.index-ahead-place.result c.split_at-in-Some.result.0.now)
+    (c.in_ok-add_all.ensures.made ∙ ap (λ (x : List Collection). all_of out ++ all_of x) c.split_at.ensures.front)
+    ∙ ap₂ (λ (hs : Collection) (xs : List Entry). (all_of out ++ all_of (take i ahead)) ++ changed hs xs) part
+    c.split_at-in-Some.ensures.front in
+    let step = making_step all es out ahead new rest rank i k was next c.in_ok-add_changed.ensures.filled made in
+    subst₂ (λ (x : List Collection) (xs : List Entry). Making all es new x xs) (sym c.split_at-in-Some-2.ensures.back)
+    (sym c.split_at-in-Some.ensures.back) step

@@ -1,0 +1,10 @@
+use Rattle.std.proofs.Common.{length}
+use Rattle.s2ix_bag_lists.specs.Faces.{all_of}
+use Rattle.s2ix_bag_lists.proofs.Making.{Making}
+use Rattle.s2ix_bag_lists.proofs.parts_after.parts_after.Given as goal
+
+abbrev pub invariant-loop-first : goal.invariant-loop-first
+invariant-loop-first l = Making (all_of l.parts) l.entries l.after.items l.ahead l.rest
+
+abbrev pub decreases-loop-first : goal.decreases-loop-first
+decreases-loop-first l = length l.ahead

@@ -1,0 +1,228 @@
+ghost use Rattle.std.specs.Prelude.{◌≡◌, ◌==◌, ◌++◌, ◌<◌, ◌≤◌, not, [], Some, length, position, slice_get, IfOk, OnOk};
+ghost use Rattle.s2ix_bag_lists.specs.Apply.{AreBefore};
+ghost use Rattle.s2ix_bag_lists.specs.Faces.{all_of};
+ghost use Rattle.s2ix_bag_lists.specs.Parts.{AreFilled, IsPartAt};
+ghost use Rattle.s2ix_bag_pairs.specs.Change.{IsChangeList, changed};
+ghost use Rattle.s2ix_bag_pairs.specs.Collection.{IsCollection, count_in};
+
+use crate::apply::merge;
+use crate::cut::{cut, pieces};
+use crate::flat::FlatHeld;
+use crate::held_list::HeldList;
+use crate::part_list::PartList;
+use crate::parts_after::parts_after;
+use s2id_core::OutOfMemory;
+use s2ix_bag_pairs::{Entry, Held, Pair};
+use std::alloc::{AllocError, Global};
+use std::marker::Model;
+use std::sync::Arc;
+
+/// The most pairs that a part has, unless cells leave no place to cut it.
+pub(crate) const MOST_PAIRS: usize = 512;
+
+/// Held pairs, mostly those of one face, at most 1,000,000, in parts: a change copies the parts on which it has entries, and shares the
+/// others. Contracts see the one list that the parts make up, in rising order. A list without pairs does not allocate.
+#[derive(Debug, Drop)]
+pub struct HeldParts {
+    shared: Option<Arc<PartList>>,
+    most: usize,
+}
+
+impl Model for HeldParts {
+    ghost use Rattle.std.specs.Prelude.{[], Some, None};
+    ghost use Rattle.s2ix_bag_pairs.specs.Collection.{Collection};
+
+    ghost Value = { Collection };
+
+    ghost view = { λ list. elim list.shared [ None ↦ [] | Some shared ↦ shared.value ] };
+}
+
+impl HeldParts {
+    /// The list without pairs.
+    pub fn empty() -> HeldParts
+        ensures { result ≡ [] }
+    {
+        HeldParts::in_parts_of(MOST_PAIRS)
+    }
+
+    /// The list without pairs, which is cut into parts of at most so many pairs as it grows. A part has more only if cells leave no place to
+    /// cut it.
+    pub fn in_parts_of(most: usize) -> HeldParts
+        ensures { result ≡ [] }
+    {
+        HeldParts { shared: None, most }
+    }
+
+    /// These pairs, cut into parts. O(n) for n pairs. `OutOfMemory` if a growth is refused.
+    pub fn new(alloc: Global, held: &[FlatHeld]) -> Result<HeldParts, OutOfMemory>
+        requires rises { IsCollection held.now }
+        requires few { length held.now ≤ 1000000 }
+        ensures { IfOk result (λ list. list ≡ held.now) }
+    {
+        let parts = if held.len() > MOST_PAIRS {
+            cut(alloc, held, MOST_PAIRS)?
+        } else {
+            pieces(alloc, Vec::from_slice(alloc, held)?, MOST_PAIRS)?
+        };
+        HeldParts::from_parts(alloc, parts, MOST_PAIRS)
+    }
+
+    // What these parts hold.
+    fn from_parts(
+        alloc: Global,
+        parts: Vec<HeldList>,
+        most: usize,
+    ) -> Result<HeldParts, OutOfMemory>
+        requires rises { IsCollection (all_of parts.items) }
+        requires filled { AreFilled parts.items }
+        requires few { length (all_of parts.items) ≤ 1000000 }
+        ensures { IfOk result (λ list. list ≡ all_of parts.items) }
+    {
+        if parts.is_empty() {
+            return Ok(HeldParts::in_parts_of(most));
+        }
+        let shared = Arc::new(alloc, PartList::new(alloc, parts)?)?;
+        Ok(HeldParts {
+            shared: Some(shared),
+            most,
+        })
+    }
+
+    /// How many distinct pairs are held. O(1).
+    pub fn len(&self) -> usize
+        ensures number { result ≡ length self.now }
+        ensures rises { IsCollection self.now }
+        ensures few { result ≤ 1000000 }
+    {
+        match &self.shared {
+            Some(shared) => shared.len(),
+            None => 0,
+        }
+    }
+
+    /// The parts, in rising order of their pairs; none is empty. O(1).
+    pub fn parts(&self) -> &[HeldList]
+        ensures list { all_of result.now ≡ self.now }
+        ensures filled { AreFilled result.now }
+        ensures rises { IsCollection self.now }
+    {
+        match &self.shared {
+            Some(shared) => shared.parts(),
+            None => &[],
+        }
+    }
+
+    /// For a place in rising order, counted from 0: how many pairs come before the part that has it, and that part. O(log p) for p parts.
+    pub fn part_at(&self, place: usize) -> (usize, &HeldList)
+        requires { place < length self.now }
+        ensures { IsPartAt place self.now result.0 result.1.now }
+    {
+        match &self.shared {
+            Some(shared) => shared.part_at(place),
+            None => unreachable!(),
+        }
+    }
+
+    /// The pair at a place in rising order, counted from 0, with its count. O(log p) for p parts.
+    pub fn at(&self, place: usize) -> Held
+        requires { place < length self.now }
+        ensures { slice_get self.now place ≡ Some result }
+    {
+        let (before, part) = self.part_at(place);
+        part.at(place - before)
+    }
+
+    /// The count of a pair: 0 if it is not held. O(log n) for n pairs.
+    pub fn count(&self, pair: Pair) -> u32
+        ensures { result ≡ count_in self.now pair }
+    {
+        match &self.shared {
+            Some(shared) => shared.count(pair),
+            None => 0,
+        }
+    }
+
+    // The place of the first entry whose count before is not that of the held pairs. O(m log n) for m entries and n pairs.
+    pub(crate) fn first_mismatch(&self, entries: &[Entry]) -> Option<usize>
+        ensures { result ≡ position (λ e. not (e.before == count_in self.now e.pair)) entries.now }
+    {
+        entries.iter().position(|e| e.before != self.count(e.pair))
+    }
+
+    /// All pairs in one list: the part itself, shared, if there is only one, else a copy. O(n) for n pairs. `OutOfMemory` if a growth is
+    /// refused, or the part is shared too often.
+    pub fn whole(&self, alloc: Global) -> Result<HeldList, OutOfMemory>
+        ensures { IfOk result (λ list. list ≡ self.now) }
+    {
+        let parts = self.parts();
+        if parts.len() == 1 {
+            return Ok(parts[0].clone()?);
+        }
+        HeldList::new(alloc, self.flat(alloc)?)
+    }
+
+    /// A copy of all pairs in one list. O(n) for n pairs. `OutOfMemory` if a growth is refused.
+    pub fn flat(&self, alloc: Global) -> Result<Vec<FlatHeld>, OutOfMemory>
+        ensures { IfOk result (λ all. all.items ≡ self.now) }
+    {
+        let mut all = Vec::with_capacity(alloc, self.len())?;
+        append_parts(&mut all, self.parts())?;
+        Ok(all)
+    }
+
+    /// What a change that has the right counts before makes of the pairs. Without an entry the list is shared, else its parts without an
+    /// entry are: O(p + m + k) for p parts, m entries and the k pairs of their parts. `OutOfMemory` if a growth is refused.
+    pub fn after(&self, alloc: Global, entries: &[Entry]) -> Result<HeldParts, OutOfMemory>
+        requires entries_rise { IsChangeList entries.now }
+        requires before { AreBefore self.now entries.now }
+        requires few { length (changed self.now entries.now) ≤ 1000000 }
+        ensures { IfOk result (λ list. list ≡ changed self.now entries.now) }
+    {
+        if entries.is_empty() {
+            return Ok(self.clone()?);
+        }
+        let parts = self.changed_parts(alloc, entries)?;
+        HeldParts::from_parts(alloc, parts, self.most)
+    }
+
+    // The parts that a change leaves which has the right counts before.
+    fn changed_parts(&self, alloc: Global, entries: &[Entry]) -> Result<Vec<HeldList>, OutOfMemory>
+        requires entries_rise { IsChangeList entries.now }
+        requires before { AreBefore self.now entries.now }
+        ensures made { IfOk result (λ parts. all_of parts.items ≡ changed self.now entries.now) }
+        ensures filled { IfOk result (λ parts. AreFilled parts.items) }
+        ensures rises { IsCollection self.now }
+    {
+        let parts = self.parts();
+        if parts.is_empty() {
+            pieces(alloc, merge(alloc, &[], entries)?, self.most)
+        } else {
+            parts_after(alloc, parts, entries, self.most)
+        }
+    }
+}
+
+/// Appends the pairs of all parts.
+pub(crate) fn append_parts(all: &mut Vec<FlatHeld>, parts: &[HeldList]) -> Result<(), OutOfMemory>
+    ensures { OnOk result (all.new.items ≡ all.old.items ++ all_of parts.now) }
+{
+    for part in parts {
+        all.extend_from_slice(part.as_slice())?;
+    }
+    Ok(())
+}
+
+/// The same list, shared once more. O(1).
+impl Clone for HeldParts {
+    ghost is_clone = { λ list copy. copy ≡ list };
+
+    fn clone(&self) -> Result<HeldParts, AllocError> {
+        match &self.shared {
+            Some(shared) => Ok(HeldParts {
+                shared: Some(shared.clone()?),
+                most: self.most,
+            }),
+            None => Ok(HeldParts::in_parts_of(self.most)),
+        }
+    }
+}

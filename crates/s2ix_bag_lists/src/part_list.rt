@@ -1,0 +1,108 @@
+ghost use Rattle.std.specs.Prelude.{◌≡◌, ◌<◌, ◌≤◌, Some, length, IfOk, slice_get};
+ghost use Rattle.s2ix_bag_lists.specs.Faces.{all_of};
+ghost use Rattle.s2ix_bag_lists.specs.Parts.{AreFilled, IsPartAt, starts_from};
+ghost use Rattle.s2ix_bag_pairs.specs.Collection.{IsCollection, count_in};
+
+use crate::held_list::HeldList;
+use crate::part_search::{last_start, part_of};
+use crate::search::count_of;
+use s2id_core::OutOfMemory;
+use s2ix_bag_pairs::{Held, Pair};
+use std::alloc::Global;
+use std::marker::Model;
+
+// Held pairs, at least one and at most 1,000,000, in parts. Contracts see the one list that they make up.
+#[derive(Debug, Drop)]
+pub(crate) struct PartList {
+    parts: Vec<HeldList>,
+    // how many pairs come before each part
+    starts: Vec<usize>,
+    len: usize,
+}
+
+impl Model for PartList {
+    ghost use Rattle.s2ix_bag_lists.specs.Faces.{all_of};
+    ghost use Rattle.s2ix_bag_lists.specs.Parts.{AreParts};
+    ghost use Rattle.s2ix_bag_pairs.specs.Collection.{Collection};
+
+    ghost Value = { Collection };
+
+    ghost view = { λ s. all_of s.parts.items };
+
+    ghost invariant = { λ s. AreParts s.parts.items s.starts.items s.len };
+}
+
+// How many pairs come before each part. O(p) for p parts. `OutOfMemory` if a growth is refused.
+fn starts_of(alloc: Global, parts: &[HeldList]) -> Result<Vec<usize>, OutOfMemory>
+    requires { length (all_of parts.now) ≤ 1000000 }
+    ensures { IfOk result (λ starts. starts.items ≡ starts_from 0 parts.now) }
+{
+    let mut starts = Vec::with_capacity(alloc, parts.len())?;
+    let mut before = 0;
+    for part in parts {
+        starts.push(before)?;
+        before += part.as_slice().len();
+    }
+    Ok(starts)
+}
+
+// How many pairs the parts have in all. O(p) for p parts.
+fn len_of(parts: &[HeldList]) -> usize
+    requires { length (all_of parts.now) ≤ 1000000 }
+    ensures { result ≡ length (all_of parts.now) }
+{
+    let mut len = 0;
+    for part in parts {
+        len += part.as_slice().len();
+    }
+    len
+}
+
+impl PartList {
+    // What these parts hold. O(p) for p parts. `OutOfMemory` if a growth is refused.
+    pub(crate) fn new(alloc: Global, parts: Vec<HeldList>) -> Result<PartList, OutOfMemory>
+        requires some { 0 < length parts.items }
+        requires rises { IsCollection (all_of parts.items) }
+        requires filled { AreFilled parts.items }
+        requires few { length (all_of parts.items) ≤ 1000000 }
+        ensures { IfOk result (λ list. list ≡ all_of parts.items) }
+    {
+        let starts = starts_of(alloc, &parts)?;
+        let len = len_of(&parts);
+        Ok(PartList { parts, starts, len })
+    }
+
+    pub(crate) fn len(&self) -> usize
+        ensures number { result ≡ length self.now }
+        ensures rises { IsCollection self.now }
+        ensures few { result ≤ 1000000 }
+    {
+        self.len
+    }
+
+    pub(crate) fn parts(&self) -> &[HeldList]
+        ensures list { all_of result.now ≡ self.now }
+        ensures filled { AreFilled result.now }
+        ensures some { 0 < length result.now }
+        ensures rises { IsCollection self.now }
+    {
+        &self.parts
+    }
+
+    // O(log p) for p parts.
+    pub(crate) fn part_at(&self, place: usize) -> (usize, &HeldList)
+        requires { place < length self.now }
+        ensures { IsPartAt place self.now result.0 result.1.now }
+    {
+        let part = last_start(&self.starts, place);
+        (self.starts[part], &self.parts[part])
+    }
+
+    // O(log n) for n pairs.
+    pub(crate) fn count(&self, pair: Pair) -> u32
+        ensures { result ≡ count_in self.now pair }
+    {
+        let part = part_of(&self.parts, pair);
+        count_of(self.parts[part].as_slice(), pair)
+    }
+}

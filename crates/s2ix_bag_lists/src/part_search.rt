@@ -1,0 +1,85 @@
+//! Which part of a list has a pair or a place, and which entries of a change fall into it.
+ghost use Rattle.std.specs.Prelude.{◌≡◌, ◌+◌, ◌<◌, ◌≤◌, length, take, drop, slice_index};
+ghost use Rattle.s2ix_bag_lists.specs.Faces.{AreEntriesBelow, all_of};
+ghost use Rattle.s2ix_bag_lists.specs.Parts.{AreFilled, IsCut};
+ghost use Rattle.s2ix_bag_pairs.specs.Change.{IsChangeList, IsChangeListFrom};
+ghost use Rattle.s2ix_bag_pairs.specs.Collection.{IsCollection, IsCollectionFrom, AreBelow};
+ghost use Rattle.s2ix_bag_pairs.specs.Pair.{rank_of};
+
+use crate::held_list::HeldList;
+use s2ix_bag_pairs::{Entry, Pair};
+
+// The part that a pair is in, or would go into. O(log p) for p parts.
+pub(crate) fn part_of(parts: &[HeldList], pair: Pair) -> usize
+    requires rises { IsCollection (all_of parts.now) }
+    requires filled { AreFilled parts.now }
+    requires some { 0 < length parts.now }
+    ensures within { result < length parts.now }
+    ensures below { AreBelow (rank_of pair) (all_of (take result parts.now)) }
+    ensures rest { IsCollectionFrom (rank_of pair + 1) (all_of (drop (result + 1) parts.now)) }
+{
+    let mut low = 0;
+    let mut high = parts.len();
+    while high - low > 1 {
+        let middle = low + (high - low) / 2;
+        if pair.is_before(parts[middle].at(0).pair) {
+            high = middle;
+        } else {
+            low = middle;
+        }
+    }
+    low
+}
+
+// The part that a place is in, by the places at which the parts start: the last that starts at it or before it. O(log p) for p parts.
+pub(crate) fn last_start(starts: &[usize], place: usize) -> usize
+    requires some { 0 < length starts.now }
+    requires begins { slice_index starts.now 0 ≤ place }
+    ensures within { result < length starts.now }
+    ensures begins { slice_index starts.now result ≤ place }
+    ensures ends { result + 1 < length starts.now → place < slice_index starts.now (result + 1) }
+{
+    let mut low = 0;
+    let mut high = starts.len();
+    while high - low > 1 {
+        let middle = low + (high - low) / 2;
+        if place < starts[middle] {
+            high = middle;
+        } else {
+            low = middle;
+        }
+    }
+    low
+}
+
+// How many entries come before a pair. O(k) for the answer k.
+fn entries_before(entries: &[Entry], pair: Pair) -> usize
+    requires { IsChangeList entries.now }
+    ensures within { result ≤ length entries.now }
+    ensures below { AreEntriesBelow (rank_of pair) (take result entries.now) }
+    ensures rest { IsChangeListFrom (rank_of pair) (drop result entries.now) }
+{
+    let mut count = 0;
+    while count < entries.len() && entries[count].pair.is_before(pair) {
+        count += 1;
+    }
+    count
+}
+
+// How many entries come before the part after the one at a place. O(k) for the answer k.
+pub(crate) fn entries_up_to_part(parts: &[HeldList], place: usize, entries: &[Entry]) -> usize
+    requires rises { IsCollection (all_of parts.now) }
+    requires filled { AreFilled parts.now }
+    requires place { place < length parts.now }
+    requires entries_rise { IsChangeList entries.now }
+    ensures within { result ≤ length entries.now }
+    ensures last { place + 1 ≡ length parts.now → result ≡ length entries.now }
+    ensures cut { IsCut parts.now place entries.now result }
+{
+    let next = place + 1;
+    if next < parts.len() {
+        entries_before(entries, parts[next].at(0).pair)
+    } else {
+        entries.len()
+    }
+}

@@ -1,0 +1,126 @@
+//! The parts of a list once a change is applied.
+ghost use Rattle.std.specs.Prelude.{◌≡◌, ◌<◌, ◌++◌, length, OnOk, IfOk};
+ghost use Rattle.s2ix_bag_lists.specs.Apply.{AreBefore};
+ghost use Rattle.s2ix_bag_lists.specs.Faces.{all_of};
+ghost use Rattle.s2ix_bag_lists.specs.Parts.{AreFilled};
+ghost use Rattle.s2ix_bag_pairs.specs.Change.{IsChangeList, changed};
+ghost use Rattle.s2ix_bag_pairs.specs.Collection.{IsCollection};
+
+use crate::apply::merge;
+use crate::cut::pieces;
+use crate::held_list::HeldList;
+use crate::part_search::{entries_up_to_part, part_of};
+use s2id_core::OutOfMemory;
+use s2ix_bag_pairs::Entry;
+use std::alloc::Global;
+
+// Whether two parts that follow each other are to be one: one of them has less than a quarter of the most, and both fit into a part.
+fn is_joined(first: &HeldList, second: &HeldList, most: usize) -> bool {
+    let first = first.as_slice().len();
+    let second = second.as_slice().len();
+    first.min(second) < most / 4 && first <= most && second <= most - first
+}
+
+// The pairs of two parts in one.
+fn joined(alloc: Global, first: &HeldList, second: &HeldList) -> Result<HeldList, OutOfMemory>
+    ensures { IfOk result (λ both. both ≡ first.now ++ second.now) }
+{
+    let first = first.as_slice();
+    let second = second.as_slice();
+    let mut both = Vec::with_capacity(alloc, first.len() + second.len())?;
+    both.extend_from_slice(first)?;
+    both.extend_from_slice(second)?;
+    HeldList::new(alloc, both)
+}
+
+// Appends a part, shared, or joins it with the last one.
+fn add(
+    alloc: Global,
+    out: &mut Vec<HeldList>,
+    part: &HeldList,
+    most: usize,
+) -> Result<(), OutOfMemory>
+    requires filled { AreFilled out.old.items }
+    requires some { 0 < length part.now }
+    ensures made { OnOk result (all_of out.new.items ≡ all_of out.old.items ++ part.now) }
+    ensures filled { OnOk result (AreFilled out.new.items) }
+{
+    let len = out.len();
+    if len > 0 && is_joined(&out[len - 1], part, most) {
+        let both = joined(alloc, &out[len - 1], part)?;
+        out[len - 1] = both;
+    } else {
+        out.push(part.clone()?)?;
+    }
+    Ok(())
+}
+
+// Appends parts, each as `add` does.
+fn add_all(
+    alloc: Global,
+    out: &mut Vec<HeldList>,
+    parts: &[HeldList],
+    most: usize,
+) -> Result<(), OutOfMemory>
+    requires filled { AreFilled out.old.items }
+    requires some { AreFilled parts.now }
+    ensures made { OnOk result (all_of out.new.items ≡ all_of out.old.items ++ all_of parts.now) }
+    ensures filled { OnOk result (AreFilled out.new.items) }
+{
+    for part in parts {
+        add(alloc, out, part, most)?;
+    }
+    Ok(())
+}
+
+// Appends what entries that have the right counts before make of a part: in pieces if it is too long for one then.
+fn add_changed(
+    alloc: Global,
+    out: &mut Vec<HeldList>,
+    part: &HeldList,
+    entries: &[Entry],
+    most: usize,
+) -> Result<(), OutOfMemory>
+    requires filled { AreFilled out.old.items }
+    requires held_rise { IsCollection part.now }
+    requires entries_rise { IsChangeList entries.now }
+    requires before { AreBefore part.now entries.now }
+    ensures made { OnOk result (all_of out.new.items ≡ all_of out.old.items ++ changed part.now entries.now) }
+    ensures filled { OnOk result (AreFilled out.new.items) }
+{
+    let held = merge(alloc, part.as_slice(), entries)?;
+    let pieces = pieces(alloc, held, most)?;
+    add_all(alloc, out, &pieces, most)
+}
+
+/// The parts once a change is applied that has the right counts before. Those without an entry are shared, but for neighbours of parts that
+/// have become small. `OutOfMemory` if a growth is refused.
+pub(crate) fn parts_after(
+    alloc: Global,
+    parts: &[HeldList],
+    entries: &[Entry],
+    most: usize,
+) -> Result<Vec<HeldList>, OutOfMemory>
+    requires rises { IsCollection (all_of parts.now) }
+    requires filled { AreFilled parts.now }
+    requires some { 0 < length parts.now }
+    requires entries_rise { IsChangeList entries.now }
+    requires before { AreBefore (all_of parts.now) entries.now }
+    ensures made { IfOk result (λ after. all_of after.items ≡ changed (all_of parts.now) entries.now) }
+    ensures filled { IfOk result (λ after. AreFilled after.items) }
+{
+    let mut after = Vec::with_capacity(alloc, parts.len() + 1)?;
+    let mut ahead = parts;
+    let mut rest = entries;
+    while let Some(first) = rest.first() {
+        let place = part_of(ahead, first.pair);
+        let (front, _) = ahead.split_at(place);
+        add_all(alloc, &mut after, front, most)?;
+        let (own, later) = rest.split_at(entries_up_to_part(ahead, place, rest));
+        add_changed(alloc, &mut after, &ahead[place], own, most)?;
+        rest = later;
+        (_, ahead) = ahead.split_at(place + 1);
+    }
+    add_all(alloc, &mut after, ahead, most)?;
+    Ok(after)
+}
