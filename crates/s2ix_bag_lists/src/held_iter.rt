@@ -1,6 +1,7 @@
 ghost use Rattle.std.specs.Prelude.{◌≡◌, ◌++◌, []};
 ghost use Rattle.std.specs.Iterator.{YieldsFirst, item_count};
 ghost use Rattle.s2ix_bag_lists.specs.Faces.{all_of};
+ghost use Rattle.s2ix_bag_lists.specs.Parts.{AreFilled};
 
 use crate::flat::FlatHeld;
 use crate::held_list::HeldList;
@@ -43,6 +44,30 @@ impl<'a> HeldIter<'a> {
     }
 }
 
+// The next part, taken from those of the list at hand or of the next list that has one; no pairs if there is none.
+#[inline(never)]
+fn next_part<'a>(parts: &mut &'a [HeldList], later: &mut &'a [HeldParts]) -> &'a [FlatHeld]
+    requires { AreFilled parts.old.now }
+    ensures whole { result.now ++ (all_of parts.new.now ++ all_of later.new.now) ≡ all_of parts.old.now ++ all_of later.old.now }
+    ensures filled { AreFilled parts.new.now }
+    ensures last { result.now ≡ [] → all_of parts.new.now ++ all_of later.new.now ≡ [] }
+{
+    while parts.is_empty() {
+        let Some((list, lists)) = later.split_first() else {
+            return &[];
+        };
+        *parts = list.parts();
+        *later = lists;
+    }
+    match parts.split_first() {
+        Some((part, others)) => {
+            *parts = others;
+            part.as_slice()
+        }
+        None => &[],
+    }
+}
+
 impl<'a> Iterator for HeldIter<'a> {
     type Item = Held;
 
@@ -50,20 +75,13 @@ impl<'a> Iterator for HeldIter<'a> {
 
     ghost remaining = { item_count (λ rest. rest) };
 
+    #[inline]
     fn next(&mut self) -> Option<Held> {
-        if let Some((first, rest)) = self.rest.split_first() {
-            self.rest = rest;
-            return Some(first.held());
+        if self.rest.is_empty() {
+            self.rest = next_part(&mut self.parts, &mut self.later);
         }
-        while self.parts.is_empty() {
-            let (list, later) = self.later.split_first()?;
-            self.parts = list.parts();
-            self.later = later;
-        }
-        let (part, parts) = self.parts.split_first()?;
-        let (first, rest) = part.as_slice().split_first()?;
+        let (first, rest) = self.rest.split_first()?;
         self.rest = rest;
-        self.parts = parts;
         Some(first.held())
     }
 }

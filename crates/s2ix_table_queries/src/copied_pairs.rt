@@ -12,10 +12,9 @@ pub(crate) fn held_pairs(alloc: Global, bag: &Bag) -> Result<Vec<Held>, OutOfMem
     ensures rises { IfOk result (λ held. IsCollection held.items) }
     ensures few { IfOk result (λ held. length held.items ≤ 1000000) }
 {
-    let len = bag.len();
-    let mut held = Vec::with_capacity(alloc, len)?;
-    for k in 0..len {
-        held.push(bag.held(k))?;
+    let mut list = Vec::with_capacity(alloc, bag.len())?;
+    for held in bag.iter() {
+        list.push(held)?;
     }
-    Ok(held)
+    Ok(list)
 }

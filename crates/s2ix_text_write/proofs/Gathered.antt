@@ -1,5 +1,5 @@
 -- Lines that are gathered before they are put.
-use Rattle.std.proofs.Common.{◌≡◌, ℕ, ◌+◌, List, [], ◌++◌, take, drop, Some, Result, Ok, Err, sym, ap, ap₂, ◌∙◌, refl, subst, append_assoc, ◌≤◌, append-nil, length, arith}
+use Rattle.std.proofs.Common.{◌≡◌, ℕ, ◌+◌, List, [], ◌∷◌, ◌++◌, take, drop, Some, Result, Ok, Err, sym, ap, ap₂, ◌∙◌, refl, subst, append_assoc, ◌≤◌, append-nil, length, arith}
 use Rattle.std.specs.Prelude.{flat_map, IsErr, slice_get}
 use Rattle.s2ix_text_parts.specs.Puts.{Writes}
 use Rattle.s2ix_text_parts.specs.declared.sink.Sink.{Ghosts as Sink}
@@ -75,6 +75,26 @@ module _ {K : Type 0} {sink : Sink K} where
       → IsGathered sink old new (flat_map f (take (place + 1) xs)) after
   gathered_item f xs place x {old} {mid} {new} {rest} {after} at was more =
       subst (λ (t : List ℕ). IsGathered sink old new t after) (sym (flat_map-take_more f xs place x at)) (gathered_then (f x) was more)
+
+  -- one item more of an iterator is gathered
+  pub yielded_item : {X : Type 0} (f : X → List ℕ) (front : List X) (x : X) {old mid new : K} {rest after : List ℕ}
+      → IsGathered sink old mid (flat_map f front) rest → IsGathered sink mid new (rest ++ f x) after
+      → IsGathered sink old new (flat_map f (front ++ x ∷ [])) after
+  yielded_item f front x {old} {mid} {new} {rest} {after} was more =
+      subst (λ (t : List ℕ). IsGathered sink old new t after)
+      (sym (flat_map-append f front (x ∷ []) ∙ ap (λ t. flat_map f front ++ t) (append-nil (f x)))) (gathered_then (f x) was more)
+
+  -- the sink failed in an item of an iterator or before it
+  pub yielded_fault : {X A B : Type 0} (f : X → List ℕ) (xs front back : List X) (x : X) {old mid new : K} {rest : List ℕ}
+      {fault : WriteFault} (r : Result B WriteFault)
+      → IsErr r → front ++ x ∷ back ≡ xs
+      → IsGathered sink old mid (flat_map f front) rest → Writes {A = A} sink mid new (Err fault) (rest ++ f x)
+      → Writes sink old new r (flat_map f xs)
+  yielded_fault {X} {A} {B} f xs front back x {old} {mid} {new} {rest} {fault} r is all was put =
+      let failed : Writes {A = A} sink old new (Err fault) (flat_map f front ++ f x) = gathered_last (f x) was put in
+      let whole : (flat_map f front ++ f x) ++ flat_map f back ≡ flat_map f xs =
+      append_assoc (flat_map f front) (f x) (flat_map f back) ∙ sym (flat_map-append f front (x ∷ back)) ∙ ap (flat_map f) all in
+      subst (λ (t : List ℕ). Writes sink old new r t) whole (Writes-cut r (flat_map f back) is failed)
 
   -- the sink failed in an item or before it
   pub gathered_fault : {X A B : Type 0} (f : X → List ℕ) (xs : List X) (place : ℕ) (x : X) {old mid new : K} {rest : List ℕ}

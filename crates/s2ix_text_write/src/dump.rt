@@ -14,8 +14,8 @@ fn write_pairs<K: Sink>(bag: &Bag, sink: &mut K) -> Result<(), WriteFault>
     ensures { Writes K.Sink sink.old sink.new result (flat_map pair_line bag.now.held) }
 {
     let mut block = Block::new();
-    for place in 0..bag.len() {
-        block.write_parts(b' ', bag.held(place), sink)?;
+    for held in bag.iter() {
+        block.write_parts(b' ', held, sink)?;
     }
     block.put(sink)
 }

@@ -26,8 +26,8 @@ fn pair_lists(alloc: Global, bag: &Bag) -> Result<Vec<Value>, AllocError>
     ensures { IfOk result (λ lists. map view lists.items ≡ map pair_value bag.now.held) }
 {
     let mut lists = Vec::with_capacity(alloc, bag.len())?;
-    for place in 0..bag.len() {
-        lists.push(pair_list(alloc, bag.held(place))?)?;
+    for held in bag.iter() {
+        lists.push(pair_list(alloc, held)?)?;
     }
     Ok(lists)
 }
