@@ -1,9 +1,9 @@
 //! Bags and changes: what a change makes of a bag, and what takes it back.
 //!
 //! A [`Bag`] is a finite map from pairs of a cell and a label to counts above 0, within stated limits. A [`Change`] lists what differs
-//! between two bags. [`Bag::applied`] gives the bag after a change, and [`Bag::reverted`] the bag with a change taken back; both leave
-//! their bag as it is, and share the pairs of each face that the change leaves alone. `s2ix_bag` does many changes at once, by `replay` and
-//! `rewind`.
+//! between two bags. [`Bag::applied`] returns the bag after a change, and [`Bag::reverted`] the bag with a change taken back. Neither
+//! changes its own bag. The bag that it returns shares the parts on which the change has no entry. `s2ix_bag` does many changes at once, by
+//! `replay` and `rewind`.
 #![tactic(auto)]
 
 mod bag;

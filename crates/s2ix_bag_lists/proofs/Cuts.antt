@@ -10,7 +10,7 @@ use Rattle.s2ix_bag_pairs.proofs.Changes.{changed-append}
 use Rattle.s2ix_bag_lists.specs.Apply.{AreBefore}
 use Rattle.s2ix_bag_lists.specs.Faces.{AreEntriesBelow, all_of, face_start}
 use Rattle.s2ix_bag_lists.proofs.Joined.{count_front, count_back, changed_back, changed_below, changed_by_parts}
-use Rattle.s2ix_bag_lists.specs.Parts.{IsCut}
+use Rattle.s2ix_bag_lists.specs.Parts.{AreEntriesUpTo}
 use Rattle.s2ix_bag_lists.proofs.Joins.{all_push, all_split, front_below, back_rises}
 use Rattle.s2ix_bag_lists.proofs.Searches.{begins_with}
 
@@ -26,7 +26,7 @@ pairs_before_end [] = tt
 pairs_before_end (h ∷ hs) =
     let number = h.pair.cell.valid.0 in let small = h.pair.label.in_range in (omega (arith, number, small), pairs_before_end hs)
 
-pub cut_at_end : (ps : List Collection) (place k : ℕ) (es : List Entry) → length ps ≤ place + 1 → length es ≤ k → IsCut ps place es k
+pub cut_at_end : (ps : List Collection) (place k : ℕ) (es : List Entry) → length ps ≤ place + 1 → length es ≤ k → AreEntriesUpTo ps place es k
 cut_at_end ps place k es last le =
     let none : drop (place + 1) ps ≡ [] = drop_all (place + 1) ps last in
     let no_entry : drop k es ≡ [] = drop_all k es le in
@@ -40,7 +40,7 @@ cut_at_end ps place k es last le =
 
 pub cut_at_part : (ps : List Collection) (place k : ℕ) (es : List Entry) (h : Held) → IsCollection (all_of ps) → place + 1 < length ps
     → slice_get (get_or ps (place + 1) []) 0 ≡ Some h → AreEntriesBelow (rank_of h.pair) (take k es)
-    → IsChangeListFrom (rank_of h.pair) (drop k es) → IsCut ps place es k
+    → IsChangeListFrom (rank_of h.pair) (drop k es) → AreEntriesUpTo ps place es k
 cut_at_part ps place k es h rises within is below later =
     let begins = begins_with ps (place + 1) h within is in
     let front = all_of (take (place + 1) ps) in

@@ -55,7 +55,7 @@ same_mismatch ls i n (e ∷ es) within apart le es_is below =
 
 -- ---- the first mismatch, face by face
 
-position_after : (hs : Collection) (es fs : List Entry) → length es ≤ position_or_len (is_mismatch hs) es
+pub position_after : (hs : Collection) (es fs : List Entry) → length es ≤ position_or_len (is_mismatch hs) es
     → position_or_len (is_mismatch hs) (es ++ fs) ≡ length es + position_or_len (is_mismatch hs) fs
 position_after hs [] fs le = omega arith
 position_after hs (e ∷ es) fs le =
@@ -70,7 +70,7 @@ position_after hs (e ∷ es) fs le =
     absurd (omega (arith, le, differs)))
     (cases_eq e.before (count_in hs e.pair))
 
-position_inside : (hs : Collection) (es fs : List Entry) → position_or_len (is_mismatch hs) es < length es
+pub position_inside : (hs : Collection) (es fs : List Entry) → position_or_len (is_mismatch hs) es < length es
     → position_or_len (is_mismatch hs) (es ++ fs) ≡ position_or_len (is_mismatch hs) es
 position_inside hs [] fs lt = absurd (omega arith)
 position_inside hs (e ∷ es) fs lt =
@@ -87,7 +87,7 @@ position_inside hs (e ∷ es) fs lt =
     differs_both ∙ sym differs)
     (cases_eq e.before (count_in hs e.pair))
 
-position_found : (hs : Collection) (es : List Entry) (i : ℕ) → position (is_mismatch hs) es ≡ Some i
+pub position_found : (hs : Collection) (es : List Entry) (i : ℕ) → position (is_mismatch hs) es ≡ Some i
     → (position_or_len (is_mismatch hs) es ≡ i) × (i < length es)
 position_found hs es i found =
     ⊎_elim
@@ -97,7 +97,7 @@ position_found hs es i found =
     (λ le. let clash : ◌≡◌ {A = Option ℕ} None (Some i) = sym (position_none hs es le) ∙ found in cc)
     (cases_lt (position_or_len (is_mismatch hs) es) (length es))
 
-position_absent : (hs : Collection) (es : List Entry) → position (is_mismatch hs) es ≡ None
+pub position_absent : (hs : Collection) (es : List Entry) → position (is_mismatch hs) es ≡ None
     → length es ≤ position_or_len (is_mismatch hs) es
 position_absent hs es none =
     ⊎_elim

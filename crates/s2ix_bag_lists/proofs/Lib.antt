@@ -16,4 +16,5 @@ pub mod Cuts
 pub mod Running
 pub mod Places
 pub mod Making
+pub mod Mismatches
 pub mod FaceParts

@@ -8,8 +8,8 @@ use Rattle.s2ix_bag_pairs.specs.Pair.{rank_of}
 use Rattle.s2ix_bag_pairs.specs.declared.pair.Entry.{Entry}
 use Rattle.s2ix_bag_pairs.proofs.Changes.{change_lower, changed-append}
 use Rattle.s2ix_bag_lists.specs.Apply.{AreBefore}
-use Rattle.s2ix_bag_lists.specs.Faces.{AreEntriesBelow, all_of}
-use Rattle.s2ix_bag_lists.specs.Parts.{AreFilled, IsCut}
+use Rattle.s2ix_bag_lists.specs.Faces.{all_of}
+use Rattle.s2ix_bag_lists.specs.Parts.{AreFilled, AreEntriesUpTo}
 use Rattle.s2ix_bag_lists.proofs.AmongFaces.{all_is}
 use Rattle.s2ix_bag_lists.proofs.FaceByFace.{IsOwnChange}
 use Rattle.s2ix_bag_lists.proofs.Joins.{back_rises, filled_drop}
@@ -31,11 +31,11 @@ pub record IsNext (ahead : List Collection) (rest : List Entry) (rank place own 
   pub within : place < length ahead
   pub below : AreBelow rank (all_of (take place ahead))
   pub from : IsChangeListFrom rank rest
-  pub cut : IsCut ahead place rest own
+  pub cut : AreEntriesUpTo ahead place rest own
   pub few : own ≤ length rest
   pub last : place + 1 ≡ length ahead → own ≡ length rest
 
-entries_rise_in_front : (n : ℕ) (es fs : List Entry) → IsChangeListFrom n (es ++ fs) → IsChangeListFrom n es
+pub entries_rise_in_front : (n : ℕ) (es fs : List Entry) → IsChangeListFrom n (es ++ fs) → IsChangeListFrom n es
 entries_rise_in_front n [] fs rises = tt
 entries_rise_in_front n (e ∷ es) fs rises = (rises.0, rises.1, entries_rise_in_front (rank_of e.pair + 1) es fs rises.2)
 
@@ -61,7 +61,7 @@ making_start ps es rises filled some entries_rise before = record {
   some = λ _. some;
 }
 
-later_all : (ps : List Collection) (i : ℕ) → all_of (drop (i + 1) ps) ≡ all_of (drop (suc i) ps)
+pub later_all : (ps : List Collection) (i : ℕ) → all_of (drop (i + 1) ps) ≡ all_of (drop (suc i) ps)
 later_all ps i = let more : i + 1 ≡ suc i = omega arith in ap (λ (k : ℕ). all_of (drop k ps)) more
 
 before_there : (ps : List Collection) (es : List Entry) (rank i k : ℕ) → IsNext ps es rank i k → AreBefore (all_of ps) es
@@ -87,7 +87,7 @@ making_own all es out ahead rest rank i k was next =
       before = before_front next.cut.rank (get_or ahead i []) (all_of (drop (suc i) ahead)) (take k rest) later next.cut.entries own;
     }
 
-more_ahead : (ahead : List Collection) (rest : List Entry) (rank i k : ℕ) → IsNext ahead rest rank i k → 0 < length (drop k rest)
+pub more_ahead : (ahead : List Collection) (rest : List Entry) (rank i k : ℕ) → IsNext ahead rest rank i k → 0 < length (drop k rest)
     → 0 < length (drop (i + 1) ahead)
 more_ahead ahead rest rank i k next some =
     let parts = length-drop (i + 1) ahead in

@@ -30,8 +30,8 @@ pub record AreParts (parts : List Collection) (starts : List ℕ) (len : ℕ) : 
   pub whole : len ≡ length (all_of parts)
   pub few : len ≤ 1000000
 
--- a rank at which entries and parts are cut: the first entries are those of the parts up to this one
-pub record IsCut (parts : List Collection) (place : ℕ) (es : List Entry) (own : ℕ) : Type 0 where
+-- the first entries are those of the parts up to this one: a rank parts both the entries and the pairs
+pub record AreEntriesUpTo (parts : List Collection) (place : ℕ) (es : List Entry) (own : ℕ) : Type 0 where
   pub rank : ℕ
   pub front : AreBelow rank (all_of (take (place + 1) parts))
   pub back : IsCollectionFrom rank (all_of (drop (place + 1) parts))

@@ -10,8 +10,9 @@ use s2id_core::OutOfMemory;
 use s2ix_bag_pairs::{Entry, Held, Pair};
 use std::alloc::Global;
 
-/// The place of the first entry whose count before is not that of the held pairs. O(n + m).
-pub fn first_mismatch(held: &[FlatHeld], entries: &[Entry]) -> Option<usize>
+// The place of the first entry whose count before is not that of the held pairs. It searches from place to place in growing steps:
+// O(m log n) for m entries and n pairs, and never above O(n + m).
+pub(crate) fn first_mismatch(held: &[FlatHeld], entries: &[Entry]) -> Option<usize>
     requires held_rise { IsCollection held.now }
     requires entries_rise { IsChangeList entries.now }
     ensures { result ≡ position (λ e. not (e.before == count_in held.now e.pair)) entries.now }

@@ -7,7 +7,8 @@ use std::alloc::{AllocError, Global};
 use std::marker::Model;
 use std::sync::Arc;
 
-/// A shared list of held pairs, mostly those of one face. A list without pairs does not allocate. Contracts see the pairs.
+/// A list of held pairs that several owners share, such as a part of a [`HeldParts`](crate::HeldParts). A list without pairs does not
+/// allocate. Contracts see the pairs.
 #[derive(Debug, Drop)]
 pub struct HeldList {
     shared: Option<Arc<Vec<FlatHeld>>>,

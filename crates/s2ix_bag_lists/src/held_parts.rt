@@ -5,22 +5,23 @@ ghost use Rattle.s2ix_bag_lists.specs.Parts.{AreFilled, IsPartAt};
 ghost use Rattle.s2ix_bag_pairs.specs.Change.{IsChangeList, changed};
 ghost use Rattle.s2ix_bag_pairs.specs.Collection.{IsCollection, count_in};
 
-use crate::apply::merge;
+use crate::apply::{first_mismatch, merge};
 use crate::cut::{cut, pieces};
 use crate::flat::FlatHeld;
 use crate::held_list::HeldList;
 use crate::part_list::PartList;
 use crate::parts_after::parts_after;
+use crate::parts_mismatch::mismatch_in_parts;
 use s2id_core::OutOfMemory;
 use s2ix_bag_pairs::{Entry, Held, Pair};
 use std::alloc::{AllocError, Global};
 use std::marker::Model;
 use std::sync::Arc;
 
-/// The most pairs that a part has, unless cells leave no place to cut it.
+/// The most pairs that a part has, unless cells reach across each place where it could be cut.
 pub(crate) const MOST_PAIRS: usize = 512;
 
-/// Held pairs, mostly those of one face, at most 1,000,000, in parts: a change copies the parts on which it has entries, and shares the
+/// Held pairs, mostly those of one face, at most 1,000,000, in parts. A change copies the parts on which it has entries, and shares the
 /// others. Contracts see the one list that the parts make up, in rising order. A list without pairs does not allocate.
 #[derive(Debug, Drop)]
 pub struct HeldParts {
@@ -45,8 +46,8 @@ impl HeldParts {
         HeldParts::in_parts_of(MOST_PAIRS)
     }
 
-    /// The list without pairs, which is cut into parts of at most so many pairs as it grows. A part has more only if cells leave no place to
-    /// cut it.
+    /// The list without pairs. As it grows, it is cut into parts of at most `most` pairs each. A part has more only if cells reach across each
+    /// place where it could be cut.
     pub fn in_parts_of(most: usize) -> HeldParts
         ensures { result ≡ [] }
     {
@@ -142,23 +143,18 @@ impl HeldParts {
         }
     }
 
-    // The place of the first entry whose count before is not that of the held pairs. O(m log n) for m entries and n pairs.
+    // The place of the first entry whose count before is not that of the held pairs. O(m log n) for m entries and n pairs, and never above
+    // O(n + m).
     pub(crate) fn first_mismatch(&self, entries: &[Entry]) -> Option<usize>
+        requires { IsChangeList entries.now }
         ensures { result ≡ position (λ e. not (e.before == count_in self.now e.pair)) entries.now }
     {
-        entries.iter().position(|e| e.before != self.count(e.pair))
-    }
-
-    /// All pairs in one list: the part itself, shared, if there is only one, else a copy. O(n) for n pairs. `OutOfMemory` if a growth is
-    /// refused, or the part is shared too often.
-    pub fn whole(&self, alloc: Global) -> Result<HeldList, OutOfMemory>
-        ensures { IfOk result (λ list. list ≡ self.now) }
-    {
         let parts = self.parts();
-        if parts.len() == 1 {
-            return Ok(parts[0].clone()?);
+        if parts.is_empty() {
+            first_mismatch(&[], entries)
+        } else {
+            mismatch_in_parts(parts, entries)
         }
-        HeldList::new(alloc, self.flat(alloc)?)
     }
 
     /// A copy of all pairs in one list. O(n) for n pairs. `OutOfMemory` if a growth is refused.

@@ -1,11 +1,11 @@
 //! What bags and changes are made of: rising lists of held pairs and of entries.
 //!
-//! Over slices: calls find a count in a list of held pairs, compare a change with a list or merge it into one, compare two lists, and test
-//! whether a list of entries is a change ([`fault`]). The other calls require that their lists are in order, and do not test it.
+//! Over slices: calls find a count in a list of held pairs, merge a change into one, compare two lists, and test whether a list of entries is
+//! a change ([`fault`]). The other calls require that their lists are in order, and do not test it.
 //!
-//! As a whole: a [`FaceLists`] keeps the pairs of a collection in one list for each face, and is read as the one rising list that the six
-//! make up. Each is a [`HeldParts`], a shared list of parts: a copy raises six counters, and a change copies only the parts on which it has
-//! entries. Costs are for n held pairs and m entries.
+//! As a whole: a [`FaceLists`] holds the pairs of a collection, and contracts see them as one rising list. It keeps the pairs of each face in
+//! a [`HeldParts`], which cuts them into parts. All of it is shared: a copy raises six counters. A change copies only the parts on which it
+//! has entries, and parts beside them that have become small. Costs are for n held pairs and m entries.
 #![tactic(auto)]
 
 mod apply;
@@ -23,10 +23,11 @@ mod lists;
 mod part_list;
 mod part_search;
 mod parts_after;
+mod parts_mismatch;
 mod same;
 mod search;
 
-pub use apply::{first_mismatch, gains, has_count_above, losses, merge};
+pub use apply::{gains, has_count_above, losses, merge};
 pub use compare::{differences, exchanged_entries};
 pub use entries::fault;
 pub use errors::{ApplyError, ChangeError, RevertError};

@@ -35,7 +35,7 @@ impl Model for FaceLists {
     ghost invariant = { λ s. AreFaces s.lists s.len };
 }
 
-// Six lists without pairs, to be cut into parts of at most so many pairs.
+// Six lists without pairs, to be cut into parts of at most `most` pairs each.
 fn empty_lists(most: usize) -> [HeldParts; FACES]
     ensures { result ≡ [] ∷ [] ∷ [] ∷ [] ∷ [] ∷ [] ∷ [] }
 {
@@ -57,8 +57,8 @@ impl FaceLists {
         FaceLists::in_parts_of(MOST_PAIRS)
     }
 
-    /// The lists that hold no pair, each of which is cut into parts of at most so many pairs as it grows. A part has more only if cells leave
-    /// no place to cut it. They do not allocate.
+    /// The lists that hold no pair. As they grow, each is cut into parts of at most `most` pairs. A part has more only if cells reach across
+    /// each place where it could be cut. They do not allocate.
     pub fn in_parts_of(most: usize) -> FaceLists
         ensures { result ≡ [] }
     {

@@ -32,10 +32,11 @@ impl Model for PartList {
     ghost invariant = { λ s. AreParts s.parts.items s.starts.items s.len };
 }
 
-// How many pairs come before each part. O(p) for p parts. `OutOfMemory` if a growth is refused.
-fn starts_of(alloc: Global, parts: &[HeldList]) -> Result<Vec<usize>, OutOfMemory>
+// How many pairs come before each part, and how many the parts have in all. O(p) for p parts. `OutOfMemory` if a growth is refused.
+fn starts_of(alloc: Global, parts: &[HeldList]) -> Result<(Vec<usize>, usize), OutOfMemory>
     requires { length (all_of parts.now) ≤ 1000000 }
-    ensures { IfOk result (λ starts. starts.items ≡ starts_from 0 parts.now) }
+    ensures starts { IfOk result (λ counted. counted.0.items ≡ starts_from 0 parts.now) }
+    ensures len { IfOk result (λ counted. counted.1 ≡ length (all_of parts.now)) }
 {
     let mut starts = Vec::with_capacity(alloc, parts.len())?;
     let mut before = 0;
@@ -43,19 +44,7 @@ fn starts_of(alloc: Global, parts: &[HeldList]) -> Result<Vec<usize>, OutOfMemor
         starts.push(before)?;
         before += part.as_slice().len();
     }
-    Ok(starts)
-}
-
-// How many pairs the parts have in all. O(p) for p parts.
-fn len_of(parts: &[HeldList]) -> usize
-    requires { length (all_of parts.now) ≤ 1000000 }
-    ensures { result ≡ length (all_of parts.now) }
-{
-    let mut len = 0;
-    for part in parts {
-        len += part.as_slice().len();
-    }
-    len
+    Ok((starts, before))
 }
 
 impl PartList {
@@ -67,8 +56,7 @@ impl PartList {
         requires few { length (all_of parts.items) ≤ 1000000 }
         ensures { IfOk result (λ list. list ≡ all_of parts.items) }
     {
-        let starts = starts_of(alloc, &parts)?;
-        let len = len_of(&parts);
+        let (starts, len) = starts_of(alloc, &parts)?;
         Ok(PartList { parts, starts, len })
     }
 

@@ -1,7 +1,7 @@
 //! Which part of a list has a pair or a place, and which entries of a change fall into it.
 ghost use Rattle.std.specs.Prelude.{◌≡◌, ◌+◌, ◌<◌, ◌≤◌, length, take, drop, slice_index};
 ghost use Rattle.s2ix_bag_lists.specs.Faces.{AreEntriesBelow, all_of};
-ghost use Rattle.s2ix_bag_lists.specs.Parts.{AreFilled, IsCut};
+ghost use Rattle.s2ix_bag_lists.specs.Parts.{AreFilled, AreEntriesUpTo};
 ghost use Rattle.s2ix_bag_pairs.specs.Change.{IsChangeList, IsChangeListFrom};
 ghost use Rattle.s2ix_bag_pairs.specs.Collection.{IsCollection, IsCollectionFrom, AreBelow};
 ghost use Rattle.s2ix_bag_pairs.specs.Pair.{rank_of};
@@ -74,7 +74,7 @@ pub(crate) fn entries_up_to_part(parts: &[HeldList], place: usize, entries: &[En
     requires entries_rise { IsChangeList entries.now }
     ensures within { result ≤ length entries.now }
     ensures last { place + 1 ≡ length parts.now → result ≡ length entries.now }
-    ensures cut { IsCut parts.now place entries.now result }
+    ensures cut { AreEntriesUpTo parts.now place entries.now result }
 {
     let next = place + 1;
     if next < parts.len() {

@@ -1,5 +1,5 @@
 -- The part is joined with the last one, or follows it.
-use Rattle.std.proofs.Common.{◌≡◌, ◌<◌, ◌-◌, ◌++◌, [], List, length, ap, ◌∙◌, subst, sym, arith, rules}
+use Rattle.std.proofs.Common.{◌-◌, [], List, ◌∙◌, subst, sym, arith, rules}
 use Rattle.std.proofs.lemmas.List.{get_or_default}
 use Rattle.s2ix_bag_pairs.specs.Collection.{Collection}
 use Rattle.s2ix_bag_lists.specs.Parts.{AreFilled}

@@ -1,5 +1,5 @@
 -- Each step changes the part that the first of the entries that are left falls into.
-use Rattle.std.proofs.Common.{◌≡◌, ◌+◌, ◌++◌, [], List, take, drop, get_or, length, sym, ap, ap₂, ◌∙◌, subst, subst₂, arith}
+use Rattle.std.proofs.Common.{◌≡◌, ◌++◌, [], List, take, get_or, sym, ap, ap₂, ◌∙◌, subst, subst₂}
 use Rattle.std.proofs.lemmas.List.{get_or_default}
 use Rattle.s2ix_bag_pairs.specs.Change.{changed}
 use Rattle.s2ix_bag_pairs.specs.Collection.{Collection}

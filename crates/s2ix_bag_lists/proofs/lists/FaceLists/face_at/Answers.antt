@@ -1,5 +1,5 @@
 -- The place lies in the list at hand, or after it.
-use Rattle.std.proofs.Common.{◌≡◌, [], length, get_or, sym, ap, subst, arith}
+use Rattle.std.proofs.Common.{[], get_or, sym, subst, arith}
 use Rattle.std.proofs.lemmas.List.{get_or_default}
 use Rattle.s2ix_bag_pairs.specs.Collection.{Collection}
 use Rattle.s2ix_bag_lists.specs.Faces.{IsFaceAt}

@@ -1,5 +1,5 @@
 -- Each face's entries are compared with its own list.
-use Rattle.std.proofs.Common.{◌≡◌, ◌+◌, ◌<◌, List, [], position, length, sym, ap, ◌∙◌, subst, subst₂, arith, Some, None}
+use Rattle.std.proofs.Common.{◌≡◌, ◌+◌, ◌<◌, List, [], position, length, take, sym, ap, ◌∙◌, subst, subst₂, arith, Some, None}
 use Rattle.std.proofs.lemmas.List.{get_or_default}
 use Rattle.s2ix_bag_pairs.specs.Change.{IsChangeList}
 use Rattle.s2ix_bag_pairs.specs.Collection.{Collection}
@@ -7,12 +7,18 @@ use Rattle.s2ix_bag_pairs.specs.declared.pair.Entry.{Entry}
 use Rattle.s2ix_bag_pairs.proofs.Changes.{change_lower}
 use Rattle.s2ix_bag_lists.proofs.Refusals.{is_mismatch}
 use Rattle.s2ix_bag_lists.specs.Faces.{face_start}
-use Rattle.s2ix_bag_lists.proofs.AmongFaces.{list_rises}
 use Rattle.s2ix_bag_lists.proofs.FaceByFace.{Compared, compared_found, compared_step, compared_end, own_of_face}
 use Rattle.s2ix_bag_lists.proofs.lists.FaceLists.mismatch.Goals as goal
 
 pub entries_up_to-requires : goal.entries_up_to-requires
 entries_up_to-requires c = change_lower 0 (face_start c.loop-face.face) c.loop-face.rest.now (omega arith) c.loop-face.invariant.rises
+
+pub first_mismatch-requires : goal.first_mismatch-requires
+first_mismatch-requires c =
+    let start = face_start c.loop-face.face in
+    let own = own_of_face c.loop-face.face c.entries_up_to.result c.loop-face.rest.now c.loop-face.invariant.rises in
+    subst (λ (es : List Entry). IsChangeList es) (sym c.split_at.ensures.front)
+    (change_lower 0 start (take c.entries_up_to.result c.loop-face.rest.now) (omega arith) own)
 
 pub returns-in-Some : goal.returns-in-Some
 returns-in-Some c =
