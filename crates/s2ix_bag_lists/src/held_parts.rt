@@ -54,8 +54,19 @@ impl HeldParts {
         HeldParts { shared: None, most }
     }
 
-    /// These pairs, cut into parts. O(n) for n pairs. `OutOfMemory` if a growth is refused.
-    pub fn new(alloc: Global, held: &[FlatHeld]) -> Result<HeldParts, OutOfMemory>
+    /// These pairs: as one part, without a copy, if they fit into it, else copied into parts. O(n) for n pairs. `OutOfMemory` if a growth is
+    /// refused.
+    pub fn new(alloc: Global, held: Vec<FlatHeld>) -> Result<HeldParts, OutOfMemory>
+        requires rises { IsCollection held.items }
+        requires few { length held.items ≤ 1000000 }
+        ensures { IfOk result (λ list. list ≡ held.items) }
+    {
+        let parts = pieces(alloc, held, MOST_PAIRS)?;
+        HeldParts::from_parts(alloc, parts, MOST_PAIRS)
+    }
+
+    // A copy of these pairs, cut into parts. O(n) for n pairs. `OutOfMemory` if a growth is refused.
+    pub(crate) fn copied(alloc: Global, held: &[FlatHeld]) -> Result<HeldParts, OutOfMemory>
         requires rises { IsCollection held.now }
         requires few { length held.now ≤ 1000000 }
         ensures { IfOk result (λ list. list ≡ held.now) }

@@ -78,7 +78,7 @@ impl FaceLists {
         let mut rest = held;
         for face in 0..FACES {
             let (own, later) = rest.split_at(held_up_to(rest, face));
-            lists[face] = HeldParts::new(alloc, own)?;
+            lists[face] = HeldParts::copied(alloc, own)?;
             rest = later;
         }
         Ok(FaceLists {

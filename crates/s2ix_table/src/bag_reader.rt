@@ -53,7 +53,7 @@ impl<'a> BagReader<'a> {
                 return Ok(list.clone()?);
             }
         }
-        HeldParts::new(alloc, &self.copied(alloc, from, to)?)
+        HeldParts::new(alloc, self.copied(alloc, from, to)?)
     }
 
     // A copy of the pairs from one place to before another: a block of each part between them, in one growth.

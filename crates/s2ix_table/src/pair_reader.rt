@@ -49,7 +49,7 @@ pub trait PairReader {
             held.push(FlatHeld::new(self.read(place)))?;
             place += 1;
         }
-        HeldParts::new(alloc, &held)
+        HeldParts::new(alloc, held)
     }
 
     /// How many pairs were read so far, in a count that stops at 2^64 - 1.

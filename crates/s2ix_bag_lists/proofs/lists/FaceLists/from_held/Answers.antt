@@ -13,8 +13,8 @@ loop-face-init c = putting_start c.args.held.now c.empty_lists-lists.result c.em
 pub held_up_to-requires : goal.held_up_to-requires
 held_up_to-requires c = from_lower 0 (face_start c.loop-face.face) c.loop-face.rest.now (omega arith) c.loop-face.invariant.rises
 
-pub new-requires-clause-rises : goal.new-requires-clause-rises
-new-requires-clause-rises c =
+pub copied-requires-clause-rises : goal.copied-requires-clause-rises
+copied-requires-clause-rises c =
     let start = face_start c.loop-face.face in
     let rest = c.loop-face.rest.now in
     let own = collection_take c.held_up_to.result start rest c.loop-face.invariant.rises in

@@ -33,8 +33,7 @@ new-requires-2-clause-rises g c =
     let hs = g.Self.PairReader.shown c.args.self.now in
     let is = g.met.Self.PairReader.is_read c.args.self.now in
     let i = c.loop-place.invariant in
-    between_rises hs c.deref.result.now c.args.from (c.loop-place.place - c.args.from) is.is_collection
-    (c.deref.ensures.value ∙ i.copied.pairs)
+    between_rises hs c.loop-place.held.items c.args.from (c.loop-place.place - c.args.from) is.is_collection i.copied.pairs
 
 pub new-requires-2-clause-few : goal.new-requires-2-clause-few
 new-requires-2-clause-few g c =
@@ -43,8 +42,7 @@ new-requires-2-clause-few g c =
     let i = c.loop-place.invariant in
     let ends = i.copied.ends in
     let within = c.requires.within in
-    between_few hs c.deref.result.now c.args.from c.loop-place.place is.few i.copied.begins (omega arith)
-    (c.deref.ensures.value ∙ i.copied.pairs)
+    between_few hs c.loop-place.held.items c.args.from c.loop-place.place is.few i.copied.begins (omega arith) i.copied.pairs
 
 pub returns-clause-pairs : goal.returns-clause-pairs
 returns-clause-pairs g c =
@@ -54,7 +52,7 @@ returns-clause-pairs g c =
     let past = c.loop-place-test.false in
     let all : c.loop-place.place ≡ c.args.to = omega arith in
     IfOk-weaker c.new-2.result _ _
-    (λ held made. made ∙ c.deref.ensures.value ∙ i.copied.pairs ∙ ap (λ (n : ℕ). take (n - c.args.from) (drop c.args.from hs)) all) c.new-2.ensures
+    (λ held made. made ∙ i.copied.pairs ∙ ap (λ (n : ℕ). take (n - c.args.from) (drop c.args.from hs)) all) c.new-2.ensures
 
 pub returns-clause-same : goal.returns-clause-same
 returns-clause-same g c = c.loop-place.invariant.same
