@@ -33,7 +33,7 @@ pub(crate) fn in_one_part<R: Reader>(
     if among.first + among.size <= known.part_end {
         return candidates;
     }
-    let begun = begin_narrowing(reader, leaf, among, known.borders);
+    let begun = begin_narrowing(reader, leaf, among, known);
     let at = narrow_by_borders(reader, leaf, begun);
     let known = part_known(reader, at.low, known);
     Candidates {
@@ -42,32 +42,31 @@ pub(crate) fn in_one_part<R: Reader>(
     }
 }
 
-// A search by borders before its first probe: borders that are not after the first range are left out. O(log b) for b borders.
+// A search by borders before its first probe. If a part is at hand, it begins at the next border, and else in the middle.
 #[inline(always)]
-fn begin_narrowing<R: Reader>(reader: &R, leaf: u64, among: Window, borders: Window) -> Narrowing
+fn begin_narrowing<R: Reader>(reader: &R, leaf: u64, among: Window, known: KnownFace) -> Narrowing
     requires among { IsWindow (R.shown reader.now).ranges leaf among.first among.size }
-    requires borders { borders.first + borders.size ≤ length (R.shown reader.now).borders }
+    requires borders { known.borders.first + known.borders.size ≤ length (R.shown reader.now).borders }
     ensures narrowing { IsNarrowing (R.shown reader.now) leaf result }
     ensures room { binary_digits result.room ≤ binary_digits (length (R.shown reader.now).ranges + 1) }
 {
-    let high = borders.first + borders.size;
-    let mut low = borders.first;
-    let mut end = high;
-    while low < end {
-        let middle = low + (end - low) / 2;
-        if reader.border(middle) <= among.first {
-            low = middle + 1;
-        } else {
-            end = middle;
-        }
-    }
+    let low = known.borders.first;
+    let high = low + known.borders.size;
+    let step = first_step(known.part_end);
     let room = power_within(reader.range_count());
     Narrowing {
         among,
         low,
         high,
+        step,
         room,
     }
+}
+
+// How many borders a search passes over at first: none if a part is at hand, which ends at this range, and else as many as there are.
+#[inline(always)]
+fn first_step(part_end: usize) -> usize {
+    if part_end == 0 { usize::MAX } else { 0 }
 }
 
 // The ranges that are left when no border lies inside of them.
@@ -87,8 +86,8 @@ fn narrow_by_borders<R: Reader>(reader: &mut R, leaf: u64, begun: Narrowing) -> 
     at
 }
 
-// A search by borders after the next one, the middle one of those left. If it lies inside of the ranges, these are parted there, or in
-// their middle if more than the next probe may leave lie on a side of it.
+// A search by borders after its next step: it leaves out the borders that do not lie inside of the ranges, or reads one range and leaves
+// the ranges on one side of it.
 #[inline(always)]
 fn narrowed<R: Reader>(reader: &mut R, leaf: u64, at: Narrowing) -> Narrowing
     requires narrowing { IsNarrowing (R.shown reader.old) leaf at }
@@ -100,47 +99,67 @@ fn narrowed<R: Reader>(reader: &mut R, leaf: u64, at: Narrowing) -> Narrowing
     ensures kept { NoFewerProbes (R.spent reader.old) (R.spent reader.new) }
     ensures probes { (R.spent reader.new).probes + binary_digits result.room ≤ (R.spent reader.old).probes + binary_digits at.room }
 {
-    let middle = at.low + (at.high - at.low) / 2;
-    let border = reader.border(middle);
+    let next = next_border(at);
+    let border = reader.border(next);
+    let step = at.step.saturating_mul(2).saturating_add(1);
     if border <= at.among.first {
         return Narrowing {
-            low: middle + 1,
+            low: next + 1,
+            step,
             ..at
         };
     }
     let before = border - at.among.first;
     if before >= at.among.size {
-        return Narrowing { high: middle, ..at };
+        return Narrowing { high: next, ..at };
     }
     let room = at.room / 2;
+    // more ranges on a side of the border than the probe may leave: it reads the range in the middle
     if before > at.room || at.among.size - before > at.room {
         let half = at.among.size / 2;
         let begins = reader.start(at.among.first + half);
         let among = side(at.among, half, begins, leaf);
         return Narrowing { among, room, ..at };
     }
-    let begins = reader.border_start(middle);
+    let begins = reader.border_start(next);
     let among = side(at.among, before, begins, leaf);
     if begins <= leaf {
         Narrowing {
             among,
-            low: middle + 1,
+            low: next + 1,
             high: at.high,
+            step,
             room,
         }
     } else {
         Narrowing {
             among,
             low: at.low,
-            high: middle,
+            high: next,
+            step: usize::MAX,
             room,
         }
     }
 }
 
+// The border at which a search looks next: the middle one of those left, or an earlier one if a probe may leave all ranges.
+#[inline(always)]
+fn next_border(at: Narrowing) -> usize
+    requires { at.low < at.high }
+    ensures from { at.low ≤ result }
+    ensures before { result < at.high }
+{
+    let half = (at.high - at.low) / 2;
+    if at.among.size <= at.room {
+        at.low + half.min(at.step)
+    } else {
+        at.low + half
+    }
+}
+
 // One side of some ranges that are parted at one of them: those before it, or it and those after it if it begins by the leaf.
 #[inline(always)]
-fn side(among: Window, before: usize, begins: u64, leaf: u64) -> Window
+pub(crate) fn side(among: Window, before: usize, begins: u64, leaf: u64) -> Window
     requires some { 0 < before }
     requires inside { before < among.size }
     requires fits { among.first + among.size < 2 ^ 64 }

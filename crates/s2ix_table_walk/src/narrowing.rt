@@ -9,12 +9,14 @@ pub(crate) struct Candidates {
     pub(crate) known: KnownFace,
 }
 
-// Some ranges, and the borders from `low` on and before `high`, of which some may lie inside of these. The next probe may leave `room`
-// ranges: a power of two, or 0 if no probe is left.
+// Some ranges, and the borders from `low` on and before `high`, among which are all borders that lie inside of these ranges and were not
+// read yet. The search passes over `step` borders to the next one that it reads, if it may, and the next probe may leave `room` ranges: a
+// power of two, or 0 if no probe is left.
 #[derive(Clone, Copy)]
 pub(crate) struct Narrowing {
     pub(crate) among: Window,
     pub(crate) low: usize,
     pub(crate) high: usize,
+    pub(crate) step: usize,
     pub(crate) room: usize,
 }

@@ -7,7 +7,7 @@ ghost use Rattle.s2ix_table_walk.specs.Costs.{NoFewerProbes};
 ghost use Rattle.s2ix_table_walk.specs.Searching.{IsWindow};
 ghost use Rattle.s2ix_table_walk.specs.Walking.{IsKnown};
 
-use crate::borders::in_one_part;
+use crate::borders::{in_one_part, side};
 use crate::narrowing::Candidates;
 use crate::power::power_within;
 use crate::reader::Reader;
@@ -138,7 +138,7 @@ fn ahead<R: Reader>(reader: &mut R, cell: CellId, from: usize, known: KnownFace)
             first: from,
             size: known.end - from,
         };
-        let among = near(reader, cell.span_start(), rest);
+        let among = near(reader, cell.span_start(), rest, known);
         return Candidates { among, known };
     }
     let (window, borders) = reader.window(face);
@@ -160,10 +160,12 @@ fn ahead<R: Reader>(reader: &mut R, cell: CellId, from: usize, known: KnownFace)
 // How many ranges ahead a search probes before it takes all of those over a face.
 const NEAR: usize = 16;
 
-// Of some ranges the first few, if the one with a leaf is among these, and else the rest.
+// Of some ranges those before one that is near at hand, or that one and the rest. It is the 16th one if that is in the part at hand, and
+// else the one at the next border.
 #[inline(always)]
-fn near<R: Reader>(reader: &mut R, leaf: u64, among: Window) -> Window
+fn near<R: Reader>(reader: &mut R, leaf: u64, among: Window, known: KnownFace) -> Window
     requires among { IsWindow (R.shown reader.old).ranges leaf among.first among.size }
+    requires borders { known.borders.first + known.borders.size ≤ length (R.shown reader.old).borders }
     ensures window { IsWindow (R.shown reader.old).ranges leaf result.first result.size }
     ensures same { R.shown reader.new ≡ R.shown reader.old }
     ensures looks { (R.spent reader.new).looks ≡ (R.spent reader.old).looks }
@@ -173,18 +175,19 @@ fn near<R: Reader>(reader: &mut R, leaf: u64, among: Window) -> Window
     if among.size <= NEAR {
         return among;
     }
-    let beyond = among.first + NEAR;
-    if reader.start(beyond) <= leaf {
-        Window {
-            first: beyond,
-            size: among.size - NEAR,
-        }
-    } else {
-        Window {
-            first: among.first,
-            size: NEAR,
-        }
+    if among.first + NEAR < known.part_end {
+        let begins = reader.start(among.first + NEAR);
+        return side(among, NEAR, begins, leaf);
     }
+    if known.borders.size == 0 {
+        return among;
+    }
+    let border = reader.border(known.borders.first);
+    if border <= among.first || border - among.first >= among.size {
+        return among;
+    }
+    let begins = reader.border_start(known.borders.first);
+    side(among, border - among.first, begins, leaf)
 }
 
 // 1 if what begins at a leaf number has begun by a leaf, else 0: the top bit of a difference, so that no branch depends on it.

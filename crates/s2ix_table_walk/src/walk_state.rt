@@ -14,8 +14,8 @@ pub(crate) struct WalkState<P> {
     pub(crate) known: KnownFace,
 }
 
-// The face of which a walk last asked the reader for its ranges, and where these end; 6 if it has asked for none. `borders` are those on
-// that face that are still ahead, and `part_end` is where the part at hand ends, 0 if none is.
+// The face whose window a walk has asked for last, or 6 if it has asked for none; the ranges over it end before `end`. The walk has not
+// passed its `borders`, and the part at hand ends before the range `part_end`, which is 0 if no part is at hand.
 #[derive(Clone, Copy)]
 pub(crate) struct KnownFace {
     pub(crate) face: u8,

@@ -19,8 +19,7 @@ returns-clause-narrowing g c =
     let room = room_is g (goal.at.returns-clause-narrowing g c).After-power_within-room in
     let within = c.requires.among.within in
     let most = room.most in
-    let order = c.loop-low.invariant in
-    record { window = c.requires.among; order = omega (arith, order.0, order.1); within = c.requires.borders; most = omega arith; power = room.power }
+    record { window = c.requires.among; order = omega arith; within = c.requires.borders; most = omega arith; power = room.power }
 
 pub returns-clause-room : goal.returns-clause-room
 returns-clause-room g c = (room_is g (goal.at.returns-clause-room g c).After-power_within-room).digits

@@ -44,14 +44,11 @@ overflow_sub-rest g c =
     let some = (rest_known g (goal.at.overflow_sub-rest g c).Then-face-known).some in
     omega arith
 
-pub near-among-requires : goal.near-among-requires
-near-among-requires g c =
+pub near-among-requires-clause-among : goal.near-among-requires-clause-among
+near-among-requires-clause-among g c =
     let ranges = (g.R.Reader.shown c.args.reader.now).ranges in
-    record {
-      among =
-          subst (λ (leaf : ℕ). IsWindow ranges leaf c.args.from (c.args.known.end - c.args.from)) (sym c.span_start.ensures)
-          (rest_known g (goal.at.near-among-requires g c).Then-face-known);
-    }
+    subst (λ (leaf : ℕ). IsWindow ranges leaf c.args.from (c.args.known.end - c.args.from)) (sym c.span_start.ensures)
+    (rest_known g (goal.at.near-among-requires-clause-among g c).Then-face-known)
 
 pub window-requires : goal.window-requires
 window-requires g c = let face = c.face-face.ensures in omega (arith, six_faces c.args.cell)
