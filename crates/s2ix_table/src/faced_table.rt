@@ -1,13 +1,15 @@
 ghost use Rattle.std.specs.Prelude.{◌≡◌, ◌≤◌, ◌<◌, ◌+◌, ◌*◌, IfOk, IfSome, OnOk, length};
 ghost use Rattle.s2id_core.specs.BinaryDigits.{binary_digits};
+ghost use Rattle.s2id_core.specs.CellId.{raw_of};
 ghost use Rattle.s2ix_bag_pairs.specs.Change.{changed};
 ghost use Rattle.s2ix_bag_pairs.specs.Collection.{IsCollection};
 ghost use Rattle.s2ix_bag_pairs.specs.OneProof.{IsCollection-prop};
 ghost use Rattle.s2ix_table_spans.specs.Once.{KeepsOnce};
+ghost use Rattle.s2ix_table_spans.specs.Starts.{IsLastStart};
 ghost use Rattle.s2ix_table_walk.specs.FaceWindows.{face_begin};
 ghost use Rattle.s2ix_table_walk.specs.Places.{LeadsTo};
 ghost use Rattle.s2ix_table_walk.specs.Shown.{AreBorders};
-ghost use Rattle.s2ix_table_walk.specs.Table.{range_at, IsRangeTable, leaf_end};
+ghost use Rattle.s2ix_table_walk.specs.Table.{range_at, IsFound, IsRangeTable, leaf_end};
 ghost use Rattle.s2ix_table.specs.Faces.{changed_count, held_on};
 ghost use Rattle.s2ix_table.specs.FaceSpans.{BeginFaces, spans_of, table_of};
 ghost use Rattle.s2ix_table.specs.Joined.{held_in, joined_ranges, AreNeighbours};
@@ -31,6 +33,9 @@ use s2ix_table_spans::SpanTable;
 use s2ix_table_walk::{RangeRow, Window};
 use std::alloc::Global;
 use std::sync::Arc;
+
+// The lists of more parts than this are out of the processor's cache.
+const MANY_PARTS: usize = 64;
 
 /// A range table in parts. Each part is a table with shared chains over some leaves of one face, and the tables that are made of this one
 /// by [`FacedTable::rebuilt`] share its parts. Empty ranges that meet where two parts do are one. Building takes O(n) for n pairs. S2
@@ -135,11 +140,13 @@ impl RangeTable for FacedTable {
         if m >= self.parts.len() {
             return Stretch::none();
         }
-        let starts = self.span(m).starts();
+        let span = self.span(m);
+        let starts = span.starts();
         Stretch {
             first: self.offsets[m].place + 1,
             count: starts.len().saturating_sub(2),
             starts: &starts[1..],
+            sample: span.sample(),
             note: m,
         }
     }
@@ -173,14 +180,16 @@ impl RangeTable for FacedTable {
         }
     }
 
-    // O(log n): a search among the parts of the leaf's face, then one in the part that has the leaf.
     #[inline]
     fn find(&self, leaf: CellId) -> usize {
-        let face = usize::from(leaf.face());
-        let first = self.faces[face];
-        let size = self.faces[face + 1] - first;
-        let part = start_by(&self.starts, leaf.raw(), Window { first, size });
-        self.offsets[part].place + self.span(part).find(leaf)
+        let (part, found) = self.own_found(leaf);
+        self.offsets[part].place + found
+    }
+
+    #[inline]
+    fn first_over(&self, leaf: CellId) -> Option<PartPlace> {
+        let (part, found) = self.own_found(leaf);
+        self.first_at(part, found)
     }
 }
 
@@ -281,6 +290,37 @@ impl FacedTable {
         ensures { result.now ≡ table_of (spans_of self.now.parts.items) part }
     {
         &self.parts[part]
+    }
+
+    // The part that has a leaf, and the place in that part's table of the range that has it. O(log n): a search among the parts of the
+    // leaf's face, then one in the part.
+    #[inline]
+    fn own_found(&self, leaf: CellId) -> (usize, usize)
+        ensures range { HasRange (spans_of self.now.parts.items) result.0 result.1 }
+        ensures found { IsFound
+            (joined_ranges (spans_of self.now.parts.items))
+            (place_on self.now.offsets.items result.0 result.1)
+            (raw_of leaf) }
+    {
+        let face = usize::from(leaf.face());
+        let first = self.faces[face];
+        let size = self.faces[face + 1] - first;
+        let part = start_by(&self.starts, leaf.raw(), Window { first, size });
+        (part, self.found_in(part, leaf))
+    }
+
+    // The place in a part's table of the range that has a leaf. O(log n).
+    #[inline]
+    fn found_in(&self, part: usize, leaf: CellId) -> usize
+        requires { IsLastStart self.now.starts.items (raw_of leaf) part }
+        ensures { IsFound (table_of (spans_of self.now.parts.items) part).ranges result (raw_of leaf) }
+    {
+        let span = self.span(part);
+        if self.parts.len() > MANY_PARTS {
+            span.find_far(leaf)
+        } else {
+            span.find(leaf)
+        }
     }
 
     // The part that has a range, and the range's place in that part's table. O(log p).

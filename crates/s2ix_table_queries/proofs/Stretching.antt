@@ -1,9 +1,9 @@
 -- Ranges of any table, read by where they begin.
-use Rattle.std.proofs.Common.{◌≡◌, ℕ, ◌+◌, ◌-◌, ◌%◌, ◌<◌, List, length, slice_index_or, sym, ◌∙◌, ap, arith}
+use Rattle.std.proofs.Common.{◌≡◌, ℕ, ◌+◌, ◌-◌, ◌*◌, ◌/◌, ◌%◌, ◌<◌, List, length, slice_index_or, sym, ◌∙◌, ap, arith}
 use Rattle.s2ix_bag_pairs.specs.Collection.{Collection}
 use Rattle.s2ix_table_walk.specs.Table.{Range, range_at, IsRangeTable}
 use Rattle.s2ix_table_walk.proofs.WalkSteps.{range_fits}
-use Rattle.s2ix_table_walk.specs.Stretches.{IsStretch}
+use Rattle.s2ix_table_walk.specs.Stretches.{IsSample, IsStretch}
 
 -- what a wrapped difference below a count tells, where nothing wraps at the end
 unwrapped : (first k count own : ℕ) → k < 18446744073709551616 → first + count < 18446744073709551616
@@ -26,3 +26,11 @@ near_is hs ranges first count starts k own t s fits is lt =
       start = sym (s.begins own lt) ∙ ap (λ n. (range_at ranges n).start) e;
       limit = sym (s.ends own lt) ∙ ap (λ n. (range_at ranges n).limit) e;
     }
+
+-- a start of a sample, by its place among all of them
+pub sampled : (count : ℕ) (starts sample : List ℕ) (own : ℕ) → IsSample count starts sample → own % 16 ≡ 15 → own / 16 < length sample
+    → (own < count) × (slice_index_or sample (own / 16) 0 ≡ slice_index_or starts own 0)
+sampled count starts sample own is whole lt =
+    let e : own / 16 * 16 + 15 ≡ own = omega arith in
+    let within = is.within (own / 16) lt in
+    (omega arith, is.each (own / 16) lt ∙ ap (λ k. slice_index_or starts k 0) e)

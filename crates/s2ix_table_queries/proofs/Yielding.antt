@@ -11,10 +11,6 @@ use Rattle.s2ix_table_walk.specs.Table.{Range}
 pub yields_rest : {S A : Type 0} (rest : S → List A) (s : S) (xs : List A) → rest s ≡ xs → AlwaysYields (YieldsFirst rest) (λ x. x) s xs
 yields_rest {S} {A} rest s xs e = (YieldsList-from_first (λ (x : A). x) rest {s = s} xs e).runs
 
-pub yields_same : {S A : Type 0} (rest : S → List A) (s : S) (xs ys : List A) → xs ≡ ys → AlwaysYields (YieldsFirst rest) (λ x. x) s xs
-    → AlwaysYields (YieldsFirst rest) (λ x. x) s ys
-yields_same {S} {A} rest s xs ys e y = subst (λ (zs : List A). AlwaysYields (YieldsFirst rest) (λ x. x) s zs) e y
-
 -- a loop over an iterator took `done` of the list that it gives: the item that it takes next
 pub yields_turn : {S A : Type 0} (rest : S → List A) (given s t u : S) (all done : List A) (r : Option A) (x : A)
     → AlwaysYields (YieldsFirst rest) (λ y. y) given all → s ≡ given → Yields (YieldsFirst rest) s done t → r ≡ Some x

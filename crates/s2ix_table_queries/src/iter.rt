@@ -119,5 +119,6 @@ pub fn chain_at<T: RangeTable>(table: &T, leaf: CellId) -> ChainIter<'_, T>
     requires { level_of leaf ≡ 30 }
     ensures { AlwaysYields ⟦<ChainIter<'static, T> as Iterator>⟧.next_gives (λ held. held) result (contents_at (raw_of leaf) (T.pairs table.now)) }
 {
-    contents(table, table.find(leaf))
+    let next = table.first_over(leaf);
+    ChainIter { table, next }
 }

@@ -1,11 +1,11 @@
 ghost use Rattle.std.specs.Prelude.{◌≡◌};
 ghost use Rattle.s2ix_table_walk.specs.Costs.{no_cost};
-ghost use Rattle.s2ix_table_walk.specs.Stretches.{IsStretch};
+ghost use Rattle.s2ix_table_walk.specs.Stretches.{IsSample, IsStretch};
 
 use crate::stretch::Stretch;
 use crate::table::RangeTable;
 use s2ix_bag_pairs::Held;
-use s2ix_table_walk::{Cost, RangeRow, Reader, Window};
+use s2ix_table_walk::{Cost, RangeRow, Reader, SAMPLE_STEP, Window};
 
 /// A reader of a table that counts what is read of it. It keeps two things at hand: the stretch of the part that it last went to, in
 /// which a search reads where ranges begin, and the note that makes the next read of a range nearby quicker.
@@ -16,6 +16,7 @@ pub struct Meter<'a, T: RangeTable> {
     near: Stretch<'a>,
     note: usize,
     pub ghost near_is: { IsStretch (T.ranges table.now) near.first near.count near.starts.now },
+    pub ghost sample_is: { IsSample near.count near.starts.now near.sample.now },
 }
 
 // A note that no table knows a range by. A search passes it for a range outside the stretch at hand, so that the compiler keeps the
@@ -76,6 +77,21 @@ impl<T: RangeTable> Reader for Meter<'_, T> {
             return self.near.starts[own];
         }
         self.table.read_near(k, NO_NOTE).0.start
+    }
+
+    // A sample of the stretch at hand has the range before that stretch, if it were one, and every 16th range after it.
+    fn sampled_by(&self, k: usize) -> usize {
+        let after = k.wrapping_sub(self.near.first).wrapping_add(1);
+        k.saturating_sub(after % SAMPLE_STEP)
+    }
+
+    fn sampled_start(&mut self, k: usize) -> u64 {
+        let own = k.wrapping_sub(self.near.first);
+        if own % SAMPLE_STEP == SAMPLE_STEP - 1 && own / SAMPLE_STEP < self.near.sample.len() {
+            self.cost.add_probe();
+            return self.near.sample[own / SAMPLE_STEP];
+        }
+        self.start(k)
     }
 
     fn border(&self, m: usize) -> usize {

@@ -1,12 +1,13 @@
 ghost use Rattle.std.specs.Prelude.{◌≡◌, ◌+◌, ◌<◌, ◌≤◌, ◌∷◌, ℕ, IfOk, IsTrue, List, [], length, drop, slice_index_or};
 ghost use Rattle.s2id_core.specs.CellId.{raw_of, level_of};
 ghost use Rattle.s2ix_bag_pairs.specs.Collection.{Collection, IsCollection};
+ghost use Rattle.s2ix_table_walk.specs.Contents.{contents_at};
 ghost use Rattle.s2ix_table_walk.specs.LabelList.{label_list};
 ghost use Rattle.s2ix_table_walk.specs.Table.{Range, range_at, IsRangeTable};
 ghost use Rattle.s2ix_table_walk.specs.Places.{IsPlace, LeadsTo};
 ghost use Rattle.s2ix_table_walk.specs.FaceWindows.{HaveFace};
 ghost use Rattle.s2ix_table_walk.specs.Shown.{AreBorders};
-ghost use Rattle.s2ix_table_walk.specs.Stretches.{IsStretch};
+ghost use Rattle.s2ix_table_walk.specs.Stretches.{IsSample, IsStretch};
 ghost use Rattle.s2ix_table_walk.specs.Meeting.{IsMeetingList, IsLabelList, meeting_of};
 ghost use Rattle.s2ix_table_walk.specs.Calls.{MayVisit, CallsOn, Visits};
 ghost use Rattle.s2ix_table_walk.specs.Costs.{ranges_met, IsWalkCost};
@@ -26,7 +27,7 @@ use std::alloc::Global;
 /// chain of these pairs (S2's `S2CellIndex`, its ranges and its contents). The ranges cover all leaves, empty ones too.
 ///
 /// Queries are `visit`, `visit_counted`, `meeting` and `labels`, at the end. `window`, `stretch`, `read_near` and the calls on borders only
-/// make a walk quicker: a user needs none of them, and a table may keep their default bodies.
+/// make a walk quicker: a user needs none of them. Of these a table has to write `border` alone.
 ///
 /// A table may keep its ranges in parts. A *border* is the place of the range at which a part begins; the borders rise, and several parts
 /// may have one border. A table that isn't kept in parts is one, with border 0.
@@ -99,7 +100,8 @@ pub trait RangeTable: Sized {
     /// A walk is quicker over them. Any number is accepted, also one without a border. No clause says which ranges these are: only the
     /// bench shows if they are few. O(1).
     fn stretch(&self, m: usize) -> Stretch<'_>
-        ensures { IsStretch (ranges self.now) result.first result.count result.starts.now }
+        ensures stretch { IsStretch (ranges self.now) result.first result.count result.starts.now }
+        ensures sample { IsSample result.count result.starts.now result.sample.now }
     {
         Stretch::none()
     }
@@ -137,6 +139,15 @@ pub trait RangeTable: Sized {
         ensures within { result < length (ranges self.now) }
         ensures start { (range_at (ranges self.now) result).start ≤ raw_of leaf }
         ensures limit { raw_of leaf < (range_at (ranges self.now) result).limit };
+
+    /// The place of the innermost pair over a leaf, or `None` if nothing lies over it: [`find`](RangeTable::find) and then
+    /// [`first`](RangeTable::first) in one search. O(log n).
+    fn first_over(&self, leaf: CellId) -> Option<Self::Place>
+        requires { level_of leaf ≡ 30 }
+        ensures { LeadsTo (chain self.now) result (contents_at (raw_of leaf) (pairs self.now)) }
+    {
+        self.first(self.find(leaf))
+    }
 
     // the pairs rise strictly, each with a count above 0
     ghost is_collection: { (table : Self) → IsCollection (pairs table) };

@@ -1,5 +1,5 @@
 -- Every 16th start.
-use Rattle.std.proofs.Common.{◌≡◌, ℕ, ◌+◌, ◌-◌, ◌*◌, ◌<◌, ◌≤◌, inl, inr, List, [], ◌∷◌, ◌++◌, length, drop, slice_index_or, AllPairs, refl, sym, ◌∙◌, ap, add-one, arith}
+use Rattle.std.proofs.Common.{◌≡◌, ℕ, ◌+◌, ◌-◌, ◌*◌, ◌%◌, ◌<◌, ◌≤◌, inl, inr, List, [], ◌∷◌, ◌++◌, length, drop, slice_index_or, AllPairs, refl, sym, ◌∙◌, ap, add-one, arith}
 use Rattle.std.proofs.lemmas.Bool.{cases_lt}
 use Rattle.std.proofs.Math.ListN.{get_or-append}
 use Rattle.std.proofs.Math.Seq.{get_or-append_seam}
@@ -50,4 +50,12 @@ sample_rises starts sample is rises i j d lt within =
     let e = at_sample starts sample i is (omega arith) in
     let f = at_sample starts sample j is within in
     let r = rises (i * 16 + 15 + 1) (j * 16 + 15 + 1) 0 (omega arith) (omega arith) in
+    omega arith
+
+pub sample_odd : (starts sample : List ℕ) → IsSample (length starts - 2) (drop 1 starts) sample
+    → ((k : ℕ) → k < length starts → slice_index_or starts k 0 % 2 ≡ 1) → (k : ℕ) → k < length sample → slice_index_or sample k 0 % 2 ≡ 1
+sample_odd starts sample is odd k lt =
+    let within = is.within k lt in
+    let e = at_sample starts sample k is lt in
+    let o = odd (k * 16 + 15 + 1) (omega arith) in
     omega arith

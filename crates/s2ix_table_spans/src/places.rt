@@ -8,8 +8,7 @@ use s2ix_table_walk::{SAMPLE_STEP, Window};
 // Of more starts than this, most that a search reads are out of the processor's near cache.
 const FAR: usize = 4096;
 
-// The last of rising starts that is not after a leaf. O(log n). Of few starts, no branch depends on a start; of more, each does, so
-// that the processor asks for the next start before it knows this one. It is not inlined, so that a caller's iterator is.
+// The last of rising starts that is not after a leaf. O(log n). It is not inlined, so that a caller's iterator is.
 #[inline(never)]
 pub(crate) fn last_start(starts: &[u64], sample: &[u64], leaf: u64) -> usize
     requires some { 0 < length starts.now }
@@ -20,11 +19,26 @@ pub(crate) fn last_start(starts: &[u64], sample: &[u64], leaf: u64) -> usize
     ensures { IsLastStart starts.now leaf result }
 {
     if starts.len() > FAR {
-        let among = sampled(starts, sample, leaf);
-        far_last(starts, leaf, among)
+        last_of_sampled(starts, sample, leaf)
     } else {
-        near_last(starts, leaf)
+        let size = starts.len();
+        last_among(starts, leaf, Window { first: 0, size })
     }
+}
+
+// The last of rising starts that is not after a leaf, as `last_start` gives it. It reads the sample first: that takes fewer lines of the
+// processor's cache, and a few steps more. O(log n).
+#[inline(never)]
+pub(crate) fn last_of_sampled(starts: &[u64], sample: &[u64], leaf: u64) -> usize
+    requires some { 0 < length starts.now }
+    requires rises { AllPairs (λ a b. a < b) starts.now }
+    requires odd { (k : ℕ) → k < length starts.now → slice_index_or starts.now k 0 % 2 ≡ 1 }
+    requires first { slice_index_or starts.now 0 0 ≤ leaf }
+    requires sample { IsSample (length starts.now - 2) (drop 1 starts.now) sample.now }
+    ensures { IsLastStart starts.now leaf result }
+{
+    let among = sampled(starts, sample, leaf);
+    last_among(starts, leaf, among)
 }
 
 // The starts among which it is: a group of 16 if there is a sample, else all.
@@ -32,6 +46,7 @@ pub(crate) fn last_start(starts: &[u64], sample: &[u64], leaf: u64) -> usize
 fn sampled(starts: &[u64], sample: &[u64], leaf: u64) -> Window
     requires some { 0 < length starts.now }
     requires rises { AllPairs (λ a b. a < b) starts.now }
+    requires odd { (k : ℕ) → k < length starts.now → slice_index_or starts.now k 0 % 2 ≡ 1 }
     requires first { slice_index_or starts.now 0 0 ≤ leaf }
     requires sample { IsSample (length starts.now - 2) (drop 1 starts.now) sample.now }
     ensures { IsAmong starts.now leaf result.first result.size }
@@ -44,7 +59,7 @@ fn sampled(starts: &[u64], sample: &[u64], leaf: u64) -> Window
         first: 0,
         size: sample.len(),
     };
-    let group = far_last(sample, leaf, all);
+    let group = last_among(sample, leaf, all);
     let first = SAMPLE_STEP * (group + 1);
     if group + 1 < sample.len() {
         let size = SAMPLE_STEP;
@@ -55,36 +70,16 @@ fn sampled(starts: &[u64], sample: &[u64], leaf: u64) -> Window
     }
 }
 
-// The last of rising starts that is not after a leaf, if it is among some of them.
+// The last of rising starts that is not after a leaf, if it is among some of them. No branch depends on a start.
 #[inline(always)]
-fn far_last(starts: &[u64], leaf: u64, among: Window) -> usize
+fn last_among(starts: &[u64], leaf: u64, among: Window) -> usize
     requires rises { AllPairs (λ a b. a < b) starts.now }
+    requires odd { (k : ℕ) → k < length starts.now → slice_index_or starts.now k 0 % 2 ≡ 1 }
     requires among { IsAmong starts.now leaf among.first among.size }
     ensures { IsLastStart starts.now leaf result }
 {
     let mut first = among.first;
     let mut size = among.size;
-    while size > 1 {
-        let half = size / 2;
-        if starts[first + half] <= leaf {
-            first += half;
-        }
-        size -= half;
-    }
-    first
-}
-
-// The last of few rising starts that is not after a leaf.
-#[inline(always)]
-fn near_last(starts: &[u64], leaf: u64) -> usize
-    requires some { 0 < length starts.now }
-    requires rises { AllPairs (λ a b. a < b) starts.now }
-    requires odd { (k : ℕ) → k < length starts.now → slice_index_or starts.now k 0 % 2 ≡ 1 }
-    requires first { slice_index_or starts.now 0 0 ≤ leaf }
-    ensures { IsLastStart starts.now leaf result }
-{
-    let mut first = 0;
-    let mut size = starts.len();
     while size > 1 {
         let half = size / 2;
         first += half * reached(starts[first + half], leaf);

@@ -1,19 +1,16 @@
-//! A short list of starts, for a search among very many ranges.
+//! A short list of starts, for a search that waits for memory.
 ghost use Rattle.std.specs.Prelude.{◌-◌, length, drop, IfOk};
 ghost use Rattle.s2ix_table_walk.specs.Stretches.{IsSample};
 
 use s2id_core::OutOfMemory;
-use s2ix_table_walk::{MANY_RANGES, SAMPLE_STEP};
+use s2ix_table_walk::SAMPLE_STEP;
 use std::alloc::Global;
 
-// The starts at 16, 32 and so on but for the last start: none if they are so few that no search reads them.
+// The starts at 16, 32 and so on but for the last start.
 pub(crate) fn sample_of(alloc: Global, starts: &[u64]) -> Result<Vec<u64>, OutOfMemory>
     ensures { IfOk result (λ sample. IsSample (length starts.now - 2) (drop 1 starts.now) sample.items) }
 {
     let count = starts.len().saturating_sub(2);
-    if count <= MANY_RANGES {
-        return Ok(Vec::new(alloc));
-    }
     let mut sample = Vec::with_capacity(alloc, count / SAMPLE_STEP)?;
     let mut k = SAMPLE_STEP;
     while k <= count {

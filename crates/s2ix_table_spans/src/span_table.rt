@@ -10,7 +10,7 @@ ghost use Rattle.s2ix_table_spans.specs.Starts.{AreEnds};
 ghost use Rattle.s2ix_table_spans.specs.SpanTable.{IsInSpan, IsSpanTable};
 
 use crate::nodes::Nodes;
-use crate::places::last_start;
+use crate::places::{last_of_sampled, last_start};
 use crate::sample::sample_of;
 use crate::splice::Before;
 use s2id_core::{CellId, OutOfMemory};
@@ -262,5 +262,16 @@ impl SpanTable {
         ensures { IsFound self.now.ranges result (raw_of leaf) }
     {
         last_start(self.starts.as_slice(), self.sample.as_slice(), leaf.raw())
+    }
+
+    /// The range that has a leaf of the span, as [`find`](SpanTable::find) gives it. It is quicker than `find` if the table's lists are out
+    /// of the processor's cache, and slower if they are in it: it first reads the short list of every 16th start. O(log n).
+    #[inline]
+    pub fn find_far(&self, leaf: CellId) -> usize
+        requires begins { self.now.from ≤ raw_of leaf }
+        requires ends { raw_of leaf < self.now.to }
+        ensures { IsFound self.now.ranges result (raw_of leaf) }
+    {
+        last_of_sampled(self.starts.as_slice(), self.sample.as_slice(), leaf.raw())
     }
 }

@@ -13,6 +13,7 @@ pub mod Visits
 pub mod Meetings
 pub mod Counts
 pub mod Windows
+pub mod Groups
 pub mod OnFaces
 pub mod WalkSteps
 pub mod Left

@@ -3,16 +3,10 @@ use Rattle.std.proofs.Common.{◌≡◌, ℕ, zero, suc, ◌+◌, ◌-◌, ◌*�
 use Rattle.std.proofs.Math.Nat.{pow-suc, max-eq_left, max-eq_right}
 use Rattle.std.proofs.lemmas.Bool.{cases_lt}
 use Rattle.s2ix_bag_pairs.specs.Collection.{Collection}
-use Rattle.s2ix_table_walk.specs.Table.{Range, range_at, leaf_end, IsRangeTable, IsFound}
+use Rattle.s2ix_table_walk.specs.Table.{Range, range_at, leaf_end, IsRangeTable}
 use Rattle.s2ix_table_walk.proofs.Tables.{limits_rise}
-use Rattle.s2id_core.specs.BinaryDigits.{binary_digits}
-use Rattle.s2ix_table_walk.specs.Costs.{NoFewerProbes, with_probe}
 use Rattle.s2ix_table_walk.specs.FaceWindows.{face_begin, HaveFace}
 use Rattle.s2ix_table_walk.specs.Searching.{IsWindow}
-use Rattle.s2ix_table_walk.specs.Shown.{Shown, IsShown}
-use Rattle.s2ix_table_walk.specs.declared.cost.Cost.{Cost}
-use Rattle.s2ix_table_walk.proofs.WalkSteps.{range_fits}
-use Rattle.s2id_core.proofs.BinaryDigits.{digits_step}
 
 starts_rise : (hs : Collection) (ranges : List Range) (i j : ℕ) → IsRangeTable hs ranges → i ≤ j → j + 1 < length ranges
     → (range_at ranges (i + 1)).start ≤ (range_at ranges (j + 1)).start
@@ -44,85 +38,6 @@ second_half ranges leaf first half w some le =
     let e : first + half + half ≡ first + half * 2 = omega arith in
     let f = ap (λ k. (range_at ranges k).start) e in
     record { some = omega arith; within = omega arith; start = le; limit = λ more. let l = w.limit (omega arith) in omega arith }
-
--- a jump has halved a window of some ranges some times, at a probe each
-pub record IsJump {P : Type 0} (shown : Shown P) (leaf first size among : ℕ) (entry : Cost) (now : Shown P) (spent : Cost) : Type 0 where
-  pub window : IsWindow shown.ranges leaf first size
-  pub same : now ≡ shown
-  pub looks : spent.looks ≡ entry.looks
-  pub kept : NoFewerProbes entry spent
-  pub probes : spent.probes + binary_digits (size - 1) ≤ entry.probes + binary_digits (among - 1)
-
--- the place of the range in the middle fits a word
-pub middle_fits : {P : Type 0} (shown now : Shown P) (leaf first size among : ℕ) (entry spent : Cost) → IsShown shown
-    → IsJump shown leaf first size among entry now spent → 1 < size → first + size / 2 + 1 < 2 ^ 64
-middle_fits shown now leaf first size among entry spent is jump many =
-    let within = jump.window.within in
-    range_fits shown.pairs shown.ranges is.is_table (first + size / 2) (omega arith)
-
--- what is left of a window is its first half or its second one, and one range more if its size is odd
-pub lower_left : (hs : Collection) (ranges : List Range) (leaf first size : ℕ) → IsRangeTable hs ranges → IsWindow ranges leaf first size
-    → 1 < size → leaf < (range_at ranges (first + size / 2)).start → IsWindow ranges leaf first (size - size / 2)
-lower_left hs ranges leaf first size t w many lt =
-    let a = w.within in
-    let i : ℕ = first + size / 2 - 1 in
-    let j : ℕ = first + (size - size / 2) - 1 in
-    let e : i + 1 ≡ first + size / 2 = omega arith in
-    let f : j + 1 ≡ first + (size - size / 2) = omega arith in
-    let p = ap (λ k. (range_at ranges k).start) e in
-    let q = ap (λ k. (range_at ranges k).start) f in
-    record {
-      some = omega arith;
-      within = omega arith;
-      start = w.start;
-      limit = λ more. let r = starts_rise hs ranges i j t (omega arith) (omega arith) in omega arith;
-    }
-
-pub upper_left : (ranges : List Range) (leaf first size : ℕ) → IsWindow ranges leaf first size → 1 < size
-    → (range_at ranges (first + size / 2)).start ≤ leaf → IsWindow ranges leaf (first + size / 2) (size - size / 2)
-upper_left ranges leaf first size w many le =
-    let a = w.within in
-    let e : first + size / 2 + (size - size / 2) ≡ first + size = omega arith in
-    let f = ap (λ k. (range_at ranges k).start) e in
-    record { some = omega arith; within = omega arith; start = le; limit = λ more. let l = w.limit (omega arith) in omega arith }
-
--- what is left is one half or the other, by whether the second begins by the leaf
-pub jumped : {P : Type 0} (shown now after : Shown P) (leaf first size among start : ℕ) (entry spent paid : Cost) → IsShown shown
-    → IsJump shown leaf first size among entry now spent → 1 < size → start ≡ (range_at now.ranges (first + size / 2)).start
-    → after ≡ now → paid ≡ with_probe spent
-    → (start ≤ leaf → IsJump shown leaf (first + size / 2) (size - size / 2) among entry after paid)
-    × (leaf < start → IsJump shown leaf first (size - size / 2) among entry after paid)
-jumped {P} shown now after leaf first size among start entry spent paid is jump many begins same counts =
-    let middle = begins ∙ ap (λ (z : Shown P). (range_at z.ranges (first + size / 2)).start) jump.same in
-    let looks = ap (λ (z : Cost). z.looks) counts ∙ jump.looks in
-    let probes = ap (λ (z : Cost). z.probes) counts in
-    let kept = jump.kept in
-    let before = jump.probes in
-    let e : (size - 1) / 2 ≡ size - size / 2 - 1 = omega arith in
-    let digits = digits_step (size - 1) (omega arith) ∙ ap (λ (n : ℕ). binary_digits n + 1) e in
-    let left : (next : ℕ) → IsWindow shown.ranges leaf next (size - size / 2)
-    → IsJump shown leaf next (size - size / 2) among entry after paid =
-    λ next window. record { window = window; same = same ∙ jump.same; looks = looks; kept = omega arith; probes = omega arith } in (
-      λ by. left (first + size / 2) (upper_left shown.ranges leaf first size jump.window many (omega arith)),
-      λ beyond. left first (lower_left shown.pairs shown.ranges leaf first size is.is_table jump.window many (omega arith)),
-    )
-
--- the one range that is left has the leaf
-pub found_alone : (hs : Collection) (ranges : List Range) (leaf first size : ℕ) → IsRangeTable hs ranges → IsWindow ranges leaf first size
-    → size ≤ 1 → leaf < leaf_end → IsFound ranges first leaf
-found_alone hs ranges leaf first size t w one within =
-    let some = w.some in
-    let fits = w.within in
-    let e : first + size ≡ first + 1 = omega arith in
-    let f = ap (λ k. (range_at ranges k).start) e in
-    record {
-      within = omega arith;
-      start = w.start;
-      limit = elim (cases_lt (first + 1) (length ranges)) [
-        | inl more ↦ (let n = t.next first (first + 1) refl more in let l = w.limit (omega arith) in omega arith)
-        | inr end ↦ (let l = t.last first (omega arith) in omega arith)
-      ];
-    }
 
 -- one half of a window, by whether its second half begins by the leaf
 pub half_left : (hs : Collection) (ranges : List Range) (leaf first half one : ℕ) → IsRangeTable hs ranges

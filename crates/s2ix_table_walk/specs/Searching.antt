@@ -1,5 +1,5 @@
 -- Where a search for a range stands: private words of the walk.
-use Rattle.std.specs.Prelude.{◌≡◌, ℕ, ◌+◌, ◌/◌, ◌^◌, ◌<◌, ◌≤◌, List, length}
+use Rattle.std.specs.Prelude.{◌≡◌, ℕ, ◌+◌, ◌-◌, ◌*◌, ◌/◌, ◌^◌, ◌<◌, ◌≤◌, List, length}
 use Rattle.s2id_core.specs.BinaryDigits.{binary_digits}
 use Rattle.s2ix_table_walk.specs.Shown.{Shown}
 use Rattle.s2ix_table_walk.specs.Table.{Range, range_at}
@@ -11,6 +11,15 @@ pub record IsWindow (ranges : List Range) (leaf first size : ℕ) : Type 0 where
   pub within : first + size ≤ length ranges
   pub start : (range_at ranges first).start ≤ leaf
   pub limit : first + size < length ranges → leaf < (range_at ranges (first + size)).start
+
+-- the range with a leaf is in one of some groups of 16 ranges, from `first` on; the last group ends before the range `end`, if not sooner
+pub record AreGroups (ranges : List Range) (leaf first end groups : ℕ) : Type 0 where
+  pub some : 1 ≤ groups
+  pub before : first + (groups - 1) * 16 < end
+  pub within : end ≤ length ranges
+  pub start : (range_at ranges first).start ≤ leaf
+  pub limit : first + groups * 16 < end → leaf < (range_at ranges (first + groups * 16)).start
+  pub stop : end < length ranges → leaf < (range_at ranges end).start
 
 -- a search by borders looks among some ranges still, and at the borders from `low` on and before `high`. It may read as many ranges as
 -- `room` has binary digits; so many halvings leave one range

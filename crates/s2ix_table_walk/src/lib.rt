@@ -29,6 +29,6 @@ pub use cost::Cost;
 pub use meeting::Meeting;
 pub use reader::Reader;
 pub use row::RangeRow;
-pub use sample::{MANY_RANGES, SAMPLE_STEP};
+pub use sample::SAMPLE_STEP;
 pub use visit::walk;
 pub use window::Window;

@@ -8,13 +8,14 @@ ghost use Rattle.s2ix_table_walk.specs.declared.cost.Cost.{Cost as CostSpent};
 
 use crate::cost::Cost;
 use crate::row::RangeRow;
+use crate::sample::SAMPLE_STEP;
 use crate::window::Window;
 use s2ix_bag_pairs::Held;
 
 /// Something that reads a range table and counts what it reads. [`node`](Reader::node) gives a pair, and is one look. [`row`](Reader::row),
-/// [`start`](Reader::start), [`border_start`](Reader::border_start), [`row_and_first`](Reader::row_and_first) and
-/// [`window`](Reader::window) tell where ranges begin or end, and each is one probe. The other calls count nothing, and tell no pair and
-/// no bound of a range.
+/// [`start`](Reader::start), [`sampled_start`](Reader::sampled_start), [`border_start`](Reader::border_start),
+/// [`row_and_first`](Reader::row_and_first) and [`window`](Reader::window) tell where ranges begin or end, and each is one probe. The other
+/// calls count nothing, and tell no pair and no bound of a range.
 ///
 /// A table may keep its ranges in parts. A *border* is the place of the range at which a part begins; the borders rise, and several parts
 /// may have one border. A table that isn't kept in parts is one, with border 0.
@@ -69,6 +70,26 @@ pub trait Reader {
         self.row(k).start
     }
 
+    /// A range at most 15 places before the given one, or that one itself. No clause says which:
+    /// [`sampled_start`](Reader::sampled_start) may be quicker at every 16th range after it.
+    fn sampled_by(&self, k: usize) -> usize
+        ensures by { result ≤ k }
+        ensures near { k < result + 16 }
+    {
+        k - k % SAMPLE_STEP
+    }
+
+    /// Where a range begins, as [`start`](Reader::start) gives it: one probe. A search in a large table first reads every 16th range so: a
+    /// reader may have their starts in a short list, which takes few lines of the processor's cache.
+    fn sampled_start(&mut self, k: usize) -> u64
+        requires { k < length (shown self.old).ranges }
+        ensures start { result ≡ (range_at (shown self.old).ranges k).start }
+        ensures same { shown self.new ≡ shown self.old }
+        ensures counts { spent self.new ≡ with_probe (spent self.old) }
+    {
+        self.start(k)
+    }
+
     /// A border: the place of the range at which a part of the table begins.
     fn border(&self, m: usize) -> usize
         requires { m < length (shown self.now).borders }
@@ -82,8 +103,8 @@ pub trait Reader {
         ensures same { shown self.new ≡ shown self.old }
         ensures counts { spent self.new ≡ with_probe (spent self.old) }
     {
-        let k = self.border(m);
-        self.start(k)
+        let border = self.border(m);
+        self.start(border)
     }
 
     /// Brings the part at a border to hand: the reader may be quicker at its ranges from now on. Any number is accepted. It tells nothing,

@@ -4,13 +4,14 @@ ghost use Rattle.s2id_core.specs.CellId.{first_of, end_of};
 ghost use Rattle.s2ix_table_walk.specs.Table.{range_at, IsFound, leaf_end};
 ghost use Rattle.s2id_core.specs.BinaryDigits.{binary_digits};
 ghost use Rattle.s2ix_table_walk.specs.Costs.{NoFewerProbes};
-ghost use Rattle.s2ix_table_walk.specs.Searching.{IsWindow};
+ghost use Rattle.s2ix_table_walk.specs.Searching.{AreGroups, IsWindow};
 ghost use Rattle.s2ix_table_walk.specs.Walking.{IsKnown};
 
 use crate::borders::{in_one_part, side};
 use crate::narrowing::Candidates;
 use crate::power::power_within;
 use crate::reader::Reader;
+use crate::sample::SAMPLE_STEP;
 use crate::walk_state::KnownFace;
 use crate::window::Window;
 use s2id_core::CellId;
@@ -23,7 +24,7 @@ pub(crate) struct Reached {
 }
 
 // The range that has a leaf, of some that have it among them: each probe halves those that are left. It first reads ranges at borders,
-// until those that are left are in one part.
+// until those that are left are in one part; in a large table it then reads every 16th of these.
 #[inline(always)]
 fn search<R: Reader>(reader: &mut R, leaf: u64, candidates: Candidates) -> Reached
     requires within { leaf < leaf_end }
@@ -38,15 +39,72 @@ fn search<R: Reader>(reader: &mut R, leaf: u64, candidates: Candidates) -> Reach
         ≤ (R.spent reader.old).probes + binary_digits (length (R.shown reader.old).ranges + 1) }
 {
     let Candidates { among, known } = in_one_part(reader, leaf, candidates);
-    let range = if among.size > FAR {
-        jump(reader, leaf, among)
-    } else {
-        halve(reader, leaf, among)
-    };
+    let group = in_one_group(reader, leaf, among);
+    let range = halve(reader, leaf, group);
     Reached { range, known }
 }
 
-// The range that has a leaf, one of few: each probe halves those that are left, and no branch depends on what is read.
+// In a table of more ranges than this a search waits for memory at its probes.
+const FAR: usize = 32768;
+
+// Of some ranges of a large table at most 16, if halving groups of 16 takes no more probes than halving ranges, and else all of them. The
+// starts of these groups lie close together in memory.
+#[inline(always)]
+fn in_one_group<R: Reader>(reader: &mut R, leaf: u64, among: Window) -> Window
+    requires within { leaf < leaf_end }
+    requires among { IsWindow (R.shown reader.old).ranges leaf among.first among.size }
+    ensures window { IsWindow (R.shown reader.old).ranges leaf result.first result.size }
+    ensures same { R.shown reader.new ≡ R.shown reader.old }
+    ensures looks { (R.spent reader.new).looks ≡ (R.spent reader.old).looks }
+    ensures kept { NoFewerProbes (R.spent reader.old) (R.spent reader.new) }
+    ensures probes { (R.spent reader.new).probes + binary_digits (result.size - 1)
+        ≤ (R.spent reader.old).probes + binary_digits (among.size - 1) }
+{
+    if among.size <= SAMPLE_STEP || reader.range_count() <= FAR {
+        return among;
+    }
+    let first = reader.sampled_by(among.first);
+    let end = among.first + among.size;
+    let groups = (end - first - 1) / SAMPLE_STEP + 1;
+    if groups > power_within(among.size - 1) / 8 {
+        return among;
+    }
+    let left = halve_groups(reader, leaf, first, end, groups);
+    Window {
+        first: left,
+        size: SAMPLE_STEP.min(end - left),
+    }
+}
+
+// The first range of the group that has a leaf, of some groups of 16 ranges from one range on, the last of which ends with the range before
+// `end`. Each probe halves the groups that are left, and no branch depends on what is read.
+#[inline(always)]
+fn halve_groups<R: Reader>(
+    reader: &mut R,
+    leaf: u64,
+    from: usize,
+    end: usize,
+    groups: usize,
+) -> usize
+    requires within { leaf < leaf_end }
+    requires among { AreGroups (R.shown reader.old).ranges leaf from end groups }
+    ensures group { AreGroups (R.shown reader.old).ranges leaf result end 1 }
+    ensures same { R.shown reader.new ≡ R.shown reader.old }
+    ensures looks { (R.spent reader.new).looks ≡ (R.spent reader.old).looks }
+    ensures kept { NoFewerProbes (R.spent reader.old) (R.spent reader.new) }
+    ensures probes { (R.spent reader.new).probes ≤ (R.spent reader.old).probes + binary_digits (groups - 1) }
+{
+    let mut first = from;
+    let mut left = groups;
+    while left > 1 {
+        let half = left / 2;
+        first += half * SAMPLE_STEP * begun(reader.sampled_start(first + half * SAMPLE_STEP), leaf);
+        left -= half;
+    }
+    first
+}
+
+// The range that has a leaf: each probe halves those that are left, and no branch depends on what is read.
 #[inline(always)]
 fn halve<R: Reader>(reader: &mut R, leaf: u64, among: Window) -> usize
     requires within { leaf < leaf_end }
@@ -89,33 +147,6 @@ fn narrow<R: Reader>(reader: &mut R, leaf: u64, among: Window) -> Window
     let over = among.size - size;
     let first = among.first + over * begun(reader.start(among.first + over), leaf);
     Window { first, size }
-}
-
-// Among more ranges than this a search waits for memory at its probes.
-const FAR: usize = 2048;
-
-// The range that has a leaf, one of many: each probe halves those that are left, by a branch, so that the processor asks for the next range
-// before it knows this one.
-#[inline(always)]
-fn jump<R: Reader>(reader: &mut R, leaf: u64, among: Window) -> usize
-    requires within { leaf < leaf_end }
-    requires among { IsWindow (R.shown reader.old).ranges leaf among.first among.size }
-    ensures found { IsFound (R.shown reader.old).ranges result leaf }
-    ensures same { R.shown reader.new ≡ R.shown reader.old }
-    ensures looks { (R.spent reader.new).looks ≡ (R.spent reader.old).looks }
-    ensures kept { NoFewerProbes (R.spent reader.old) (R.spent reader.new) }
-    ensures probes { (R.spent reader.new).probes ≤ (R.spent reader.old).probes + binary_digits (among.size - 1) }
-{
-    let mut first = among.first;
-    let mut size = among.size;
-    while size > 1 {
-        let half = size / 2;
-        if reader.start(first + half) <= leaf {
-            first += half;
-        }
-        size -= half;
-    }
-    first
 }
 
 // The ranges in which to search for a cell's first leaf: those over the cell's face, from one on that begins by that leaf. It takes one

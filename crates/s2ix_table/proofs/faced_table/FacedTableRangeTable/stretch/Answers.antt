@@ -1,5 +1,7 @@
-use Rattle.std.proofs.Common.{◌≡◌, ◌+◌, ◌-◌, ◌<◌, length, drop, sym, ap, arith, rules, subst}
-use Rattle.s2ix_table_walk.specs.Stretches.{IsStretch}
+use Rattle.std.proofs.Common.{◌≡◌, ℕ, ◌+◌, ◌-◌, ◌<◌, List, length, drop, sym, ◌∙◌, ap, arith, rules, subst}
+use Rattle.std.proofs.lemmas.List.{length-map}
+use Rattle.s2ix_table_walk.specs.Stretches.{IsSample, IsStretch}
+use Rattle.s2ix_table_walk.specs.Table.{Range}
 use Rattle.s2ix_table.specs.declared.offset.Offset.{Offset}
 use Rattle.s2ix_table.specs.FaceSpans.{spans_of}
 use Rattle.s2ix_table.specs.Joined.{joined_ranges}
@@ -27,26 +29,39 @@ slice_bounds-result-count c =
     let t = c.args.self.now in
     let lt = c.if-m-len.false in
     let listed : c.args.m < length (spans_of t.parts.items) = omega (arith, lt, c.len.ensures, many_shared t.parts.items, t.parts.ok.0) in
-    some_starts c.args.m c.span.result.now c.starts-starts.result.now t.joined listed c.span.ensures c.starts-starts.ensures
+    some_starts c.args.m c.span-span.result.now c.starts-starts.result.now t.joined listed c.span-span.ensures c.starts-starts.ensures
 
 pub slice_bounds-result-start : goal.slice_bounds-result-start
 slice_bounds-result-start c =
     let t = c.args.self.now in
     let lt = c.if-m-len.false in
     let listed : c.args.m < length (spans_of t.parts.items) = omega (arith, lt, c.len.ensures, many_shared t.parts.items, t.parts.ok.0) in
-    let some = some_starts c.args.m c.span.result.now c.starts-starts.result.now t.joined listed c.span.ensures c.starts-starts.ensures in
+    let some = some_starts c.args.m c.span-span.result.now c.starts-starts.result.now t.joined listed c.span-span.ensures c.starts-starts.ensures in
     search (rules, some)
 
-pub returns : goal.returns
-returns c =
+pub returns-clause-stretch : goal.returns-clause-stretch
+returns-clause-stretch c =
     let t = c.args.self.now in
     let lt = c.if-m-len.false in
     let listed : c.args.m < length (spans_of t.parts.items) = omega (arith, lt, c.len.ensures, many_shared t.parts.items, t.parts.ok.0) in
     let ranges = joined_ranges (spans_of t.parts.items) in
     let starts = c.starts-starts.result.now in
     let read = offset_read c.args.m c.index.result.now t.joined listed c.index.ensures in
-    let stretch = part_stretch c.args.m c.span.result.now starts t.joined listed c.span.ensures c.starts-starts.ensures in
+    let stretch = part_stretch c.args.m c.span-span.result.now starts t.joined listed c.span-span.ensures c.starts-starts.ensures in
     let count : c.saturating_sub.result ≡ length starts - 2 = c.saturating_sub.ensures in
     subst (λ xs. IsStretch ranges (c.index.result.now.place + 1) c.saturating_sub.result xs) (sym (rest_of starts))
     (subst (λ n. IsStretch ranges (c.index.result.now.place + 1) n (drop 1 starts)) (sym count)
     (subst (λ (o : Offset). IsStretch ranges (o.place + 1) (length starts - 2) (drop 1 starts)) (sym read) stretch))
+
+pub returns-clause-sample : goal.returns-clause-sample
+returns-clause-sample c =
+    let starts = c.starts-starts.result.now in
+    let span = c.span-span.result.now in
+    let sample = c.sample.result.now in
+    let is = c.starts-starts.ensures in
+    let many : length starts ≡ length span.ranges = ap length is ∙ length-map span.ranges (λ (r : Range). r.start) in
+    let count : c.saturating_sub.result ≡ length starts - 2 = c.saturating_sub.ensures in
+    let own = subst (λ (xs : List ℕ). IsSample (length span.ranges - 2) (drop 1 xs) sample) (sym is) c.sample.ensures in
+    let all = subst (λ (n : ℕ). IsSample (n - 2) (drop 1 starts) sample) (sym many) own in
+    subst (λ xs. IsSample c.saturating_sub.result xs sample) (sym (rest_of starts))
+    (subst (λ n. IsSample n (drop 1 starts) sample) (sym count) all)

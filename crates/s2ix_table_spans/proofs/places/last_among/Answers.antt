@@ -1,6 +1,6 @@
 use Rattle.std.proofs.Common.{◌+◌, ◌/◌, arith}
 use Rattle.s2ix_table_spans.proofs.Windows.{window_by}
-use Rattle.s2ix_table_spans.proofs.places.near_last.Goals as goal
+use Rattle.s2ix_table_spans.proofs.places.last_among.Goals as goal
 
 pub reached-requires : goal.reached-requires
 reached-requires c =
