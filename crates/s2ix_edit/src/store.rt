@@ -19,7 +19,7 @@ ghost use Rattle.s2ix_edit.specs.Steps.{after_edit, after_forget, after_record, 
 ghost use Rattle.s2ix_edit.specs.Store.{CanGoBack, CanGoOn, HasRoom, IsStore};
 ghost use Rattle.s2ix_table_walk.specs.Table.{IsRangeTable};
 
-use crate::steps::{apply_planned, apply_recorded, push_change, shift_last};
+use crate::steps::{apply_planned, apply_recorded, make_room, rebuild_for, shift_last};
 use crate::store_table::StoreTable;
 use s2id_core::OutOfMemory;
 use s2id_union::CellUnion;
@@ -210,11 +210,12 @@ impl Store {
     {
         let number = change.entries().len();
         let faces = changed_face_count(&change);
-        let (bag, table, _reads) = apply_planned(self.alloc, &self.bag, &self.table, &change)?;
-        push_change(&mut self.done, change)?;
+        let bag = apply_planned(self.alloc, &self.bag, &change)?;
+        make_room(&mut self.done)?;
+        rebuild_for(self.alloc, &mut self.table, &bag, &change)?;
+        self.done.push_reserved(change);
         self.undone.clear();
         self.bag = bag;
-        self.table = table;
         self.faces_rebuilt = faces;
         Ok(number)
     }
@@ -239,10 +240,11 @@ impl Store {
         };
         let faces = changed_face_count(last);
         let inverse = last.inverse(self.alloc)?;
-        let (bag, table, _reads) = apply_recorded(self.alloc, &self.bag, &self.table, &inverse)?;
-        let number = shift_last(&mut self.done, &mut self.undone)?;
+        let bag = apply_recorded(self.alloc, &self.bag, &inverse)?;
+        make_room(&mut self.undone)?;
+        rebuild_for(self.alloc, &mut self.table, &bag, &inverse)?;
+        let number = shift_last(&mut self.done, &mut self.undone);
         self.bag = bag;
-        self.table = table;
         self.faces_rebuilt = faces;
         Ok(number)
     }
@@ -266,10 +268,11 @@ impl Store {
             return Err(RedoError::NothingToRedo);
         };
         let faces = changed_face_count(last);
-        let (bag, table, _reads) = apply_recorded(self.alloc, &self.bag, &self.table, last)?;
-        let number = shift_last(&mut self.undone, &mut self.done)?;
+        let bag = apply_recorded(self.alloc, &self.bag, last)?;
+        make_room(&mut self.done)?;
+        rebuild_for(self.alloc, &mut self.table, &bag, last)?;
+        let number = shift_last(&mut self.undone, &mut self.done);
         self.bag = bag;
-        self.table = table;
         self.faces_rebuilt = faces;
         Ok(number)
     }

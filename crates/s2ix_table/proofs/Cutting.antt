@@ -218,7 +218,24 @@ clean_cut b from to k l e d ts ls es within lists_fit entries_fit at was end beg
       };
     }
 
--- ---- all of it
+-- ---- all of it, or nothing
+
+nothing_changed : (n : ℕ) → IsChangedSpan [] [] [] n n
+nothing_changed n = record {
+  neighbours = refl;
+  made = refl;
+  entries_rise = tt;
+  rises = tt;
+  few = omega arith;
+  begins = λ h is. absurd (none_in_nil h is);
+  ends = λ h is. absurd (none_in_nil h is);
+}
+
+-- a cut before all
+pub no_cut : (from to : ℕ) (ts : List SpanRanges) (ls : List Collection) (es : List Entry) → IsChangedSpan ts ls es from to
+    → IsCut ts ls es from to 0 0 0 from
+no_cut from to ts ls es was =
+    record { tables_fit = omega arith; lists_fit = omega arith; entries_fit = omega arith; own = nothing_changed from; later = was }
 
 pub whole_cut : (from to k l e : ℕ) (ts : List SpanRanges) (ls : List Collection) (es : List Entry) → k ≡ length ts → l ≡ length ls
     → e ≡ length es → IsChangedSpan ts ls es from to → IsCut ts ls es from to k l e to
@@ -228,15 +245,7 @@ whole_cut from to k l e ts ls es all_tables all_lists all_entries was =
     let entries_long : length es ≤ e = omega arith in
     let IsOwn : List SpanRanges → List Collection → List Entry → Type 0 = λ xs ys zs. IsChangedSpan xs ys zs from to in
     let IsLater : List SpanRanges → List Collection → List Entry → Type 0 = λ xs ys zs. IsChangedSpan xs ys zs to to in
-    let later : IsChangedSpan [] [] [] to to = record {
-      neighbours = refl;
-      made = refl;
-      entries_rise = tt;
-      rises = tt;
-      few = omega arith;
-      begins = λ h is. absurd (none_in_nil h is);
-      ends = λ h is. absurd (none_in_nil h is);
-    } in
+    let later = nothing_changed to in
     record {
       tables_fit = omega arith;
       lists_fit = omega arith;
@@ -246,6 +255,10 @@ whole_cut from to k l e ts ls es all_tables all_lists all_entries was =
       later = subst (λ xs. IsLater xs (drop l ls) (drop e es)) (sym (drop_all k ts long))
           (subst (λ ys. IsLater [] ys (drop e es)) (sym (drop_all l ls lists_long)) (subst (λ zs. IsLater [] [] zs) (sym (drop_all e es entries_long)) later));
     }
+
+pub none_held : (ts : List SpanRanges) → length ts ≡ 0 → held_in ts ≡ []
+none_held [] none = refl
+none_held (t ∷ ts) none = absurd (omega arith)
 
 -- nothing is left after all tables
 pub none_left : (from to : ℕ) (ts : List SpanRanges) (ls : List Collection) (es : List Entry) → length ts ≡ 0 → IsChangedSpan ts ls es from to

@@ -28,3 +28,4 @@ pub mod Making
 pub mod Together
 pub mod ChangedOnFaces
 pub mod ReadParts
+pub mod OneFace

@@ -112,7 +112,7 @@ nothing_read change hs w before after same =
           (none_read before after same);
     }
 
-face_left : (change : List Entry) (hs : Collection) (w face before after : ℕ) → has_entry_on change face ≡ false
+pub face_left : (change : List Entry) (hs : Collection) (w face before after : ℕ) → has_entry_on change face ≡ false
     → AreReadBelow change hs w face before after → AreReadBelow change hs w (face + 1) before after
 face_left change hs w face before after none r =
     let p = part_none change hs face none in
@@ -126,7 +126,7 @@ face_left change hs w face before after none r =
           (sum_below change hs (suc face) + suc face * w) before after (omega (arith, s)) (omega (arith, s, more)) r.reads;
     })
 
-face_read : (change : List Entry) (hs : Collection) (w face before between after : ℕ) → has_entry_on change face ≡ true
+pub face_read : (change : List Entry) (hs : Collection) (w face before between after : ℕ) → has_entry_on change face ≡ true
     → AreReadBelow change hs w face before between → HasRead (length (held_on face hs)) (length (held_on face hs) + w) between after
     → AreReadBelow change hs w (face + 1) before after
 face_read change hs w face before between after some r own =
@@ -160,7 +160,7 @@ sum_rises change hs m (suc n) le =
     (cases_eq m (suc n))
 
 -- if a face's reading was refused
-refused_at : (change : List Entry) (hs : Collection) (w face before between after : ℕ) → face < 6 → has_entry_on change face ≡ true
+pub refused_at : (change : List Entry) (hs : Collection) (w face before between after : ℕ) → face < 6 → has_entry_on change face ≡ true
     → AreReadBelow change hs w face before between → HasRead 0 (length (held_on face hs) + w) between after
     → HasRead 0 (changed_count change hs + 6 * w) before after
 refused_at change hs w face before between after within some r own =

@@ -1,7 +1,7 @@
 -- Joining parts, one after the other.
-use Rattle.std.proofs.Common.{◌≡◌, ℕ, suc, ◌+◌, ◌-◌, ◌<◌, ◌≤◌, List, [], ◌∷◌, ◌++◌, length, take, get_or, sym, ◌∙◌, ap, ap₂, arith}
+use Rattle.std.proofs.Common.{◌≡◌, ℕ, suc, ◌+◌, ◌-◌, ◌<◌, ◌≤◌, List, [], ◌∷◌, ◌++◌, length, take, get_or, slice_index_or, sym, ◌∙◌, ap, ap₂, arith}
 use Rattle.std.proofs.Math.Seq.{take-suc, take-length}
-use Rattle.std.proofs.lemmas.List.{get_or-map, length-map, get_or_past}
+use Rattle.std.proofs.lemmas.List.{get_or-map, get_or-take, get_or_default, length-map, get_or_past}
 use Rattle.s2ix_table_walk.specs.Table.{range_at, leaf_end}
 use Rattle.s2ix_table_spans.specs.SpanTable.{SpanRanges}
 use Rattle.s2ix_table_spans.proofs.Few.{few_ranges}
@@ -21,21 +21,22 @@ pub record AreUpTo (parts : List SpanRanges) (starts : List ℕ) (offsets : List
   pub offsets_are : offsets ≡ take n (offsets_of parts)
   pub last : (m : ℕ) → suc m ≡ n → offset ≡ get_or (offsets_of parts) m no_offset
 
-pub up_to_first : (parts : List SpanRanges) (starts : List ℕ) (offsets : List Offset) → AreNeighbours 1 parts leaf_end → starts ≡ 1 ∷ []
-    → offsets ≡ first_offset ∷ [] → AreUpTo parts starts offsets first_offset 1
-up_to_first [] starts offsets are begins first = absurd (omega (arith, are))
-up_to_first (t ∷ []) starts offsets are begins first = record {
-  within = omega arith;
-  starts_are = begins ∙ ap (λ (n : ℕ). n ∷ []) (sym are.0);
-  offsets_are = first;
-  last = λ m e. let is : 0 ≡ m = omega arith in ap (λ k. get_or (offsets_of (t ∷ [])) k no_offset) is;
-}
-up_to_first (t ∷ u ∷ us) starts offsets are begins first = record {
-  within = omega arith;
-  starts_are = begins ∙ ap (λ (n : ℕ). n ∷ []) (sym are.0);
-  offsets_are = first;
-  last = λ m e. let is : 0 ≡ m = omega arith in ap (λ k. get_or (offsets_of (t ∷ u ∷ us)) k no_offset) is;
-}
+pub up_to_there : (parts : List SpanRanges) (starts : List ℕ) (offsets : List Offset) (offset d : Offset) (n : ℕ) → 0 < n → n ≤ length parts
+    → starts ≡ take n (starts_of parts) → offsets ≡ take n (offsets_of parts) → offset ≡ get_or offsets (n - 1) d
+    → AreUpTo parts starts offsets offset n
+up_to_there parts starts offsets offset d n some le begins are is =
+    let many = length_offsets first_offset parts in
+    record {
+      within = le;
+      starts_are = begins;
+      offsets_are = are;
+      last = λ m e.
+          let lt : m < n = omega arith in
+          let here : n - 1 ≡ m = omega arith in
+          let listed : m < length (offsets_of parts) = omega (arith, many) in
+          is ∙ ap (λ k. get_or offsets k d) here ∙ ap (λ (os : List Offset). get_or os m d) are ∙ get_or-take n (offsets_of parts) m d lt
+          ∙ get_or_default (offsets_of parts) m d no_offset listed;
+    }
 
 -- the offset after the last one is that of the next part
 next_is : (parts : List SpanRanges) (starts : List ℕ) (offsets : List Offset) (offset : Offset) (m n : ℕ) (one next : SpanRanges)
@@ -102,12 +103,17 @@ all_starts parts starts offsets offset n was all =
     let many = length-map parts (λ (t : SpanRanges). t.from) in
     was.starts_are ∙ ap (λ k. take k (starts_of parts)) (all ∙ sym many) ∙ take-length (starts_of parts)
 
--- all are joined
-pub all_joined : (parts : List SpanRanges) (starts faces : List ℕ) (offsets : List Offset) (offset : Offset) (n count : ℕ) (last : SpanRanges)
-    → AreNeighbours 1 parts leaf_end → length (held_in parts) ≤ 1000000 → AreUpTo parts starts offsets offset n → 0 < n → n ≡ length parts
-    → AreFirstParts starts faces → last ≡ table_of parts (n - 1) → count ≡ offset.place + length last.ranges
-    → AreJoined parts starts offsets faces count
-all_joined parts starts faces offsets offset n count last are few was some all firsts is sum =
+pub all_offsets : (parts : List SpanRanges) (starts : List ℕ) (offsets : List Offset) (offset : Offset) (n : ℕ)
+    → AreUpTo parts starts offsets offset n → n ≡ length parts → offsets ≡ offsets_of parts
+all_offsets parts starts offsets offset n was all =
+    let many = length_offsets first_offset parts in
+    was.offsets_are ∙ ap (λ k. take k (offsets_of parts)) (all ∙ sym many) ∙ take-length (offsets_of parts)
+
+-- all ranges are counted
+pub all_counted : (parts : List SpanRanges) (starts : List ℕ) (offsets : List Offset) (offset : Offset) (n count : ℕ) (last : SpanRanges)
+    → AreNeighbours 1 parts leaf_end → AreUpTo parts starts offsets offset n → 0 < n → n ≡ length parts → last ≡ table_of parts (n - 1)
+    → count ≡ offset.place + length last.ranges → count ≡ length (joined_ranges parts)
+all_counted parts starts offsets offset n count last are was some all is sum =
     let e : suc (n - 1) ≡ n = omega arith in
     let lt : n - 1 < length parts = omega arith in
     let part = offsets_fit parts leaf_end (n - 1) no_table no_offset are lt in
@@ -119,11 +125,14 @@ all_joined parts starts faces offsets offset n count last are few was some all f
     let within = part.within in
     let place = ap (λ (o : Offset). o.place) (was.last (n - 1) e) in
     let own = ap (λ (s : SpanRanges). length s.ranges) is in
-    record {
-      neighbours = are;
-      starts_are = all_starts parts starts offsets offset n was all;
-      offsets_are = was.offsets_are ∙ ap (λ k. take k (offsets_of parts)) (all ∙ sym many_offsets) ∙ take-length (offsets_of parts);
-      faces_are = firsts;
-      few = few;
-      counted = omega arith;
-    }
+    omega arith
+
+pub first_start : (parts : List SpanRanges) → AreNeighbours 1 parts leaf_end → slice_index_or (starts_of parts) 0 0 ≡ 1
+first_start [] are = absurd (omega (arith, are))
+first_start (t ∷ ts) are = are.0
+
+pub are_joined : (parts : List SpanRanges) (starts : List ℕ) (offsets : List Offset) (faces : List ℕ) (count : ℕ) → AreNeighbours 1 parts leaf_end
+    → length (held_in parts) ≤ 1000000 → starts ≡ starts_of parts → offsets ≡ offsets_of parts → AreFirstParts starts faces
+    → count ≡ length (joined_ranges parts) → AreJoined parts starts offsets faces count
+are_joined parts starts offsets faces count are few begins places firsts counts =
+    record { neighbours = are; starts_are = begins; offsets_are = places; faces_are = firsts; few = few; counted = counts }

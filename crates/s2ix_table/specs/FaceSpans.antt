@@ -1,5 +1,5 @@
 -- The spans of faces, and the parts of a table over them.
-use Rattle.std.specs.Prelude.{◌≡◌, ℕ, ◌+◌, ◌<◌, List, [], length, map, slice_index_or, Contains}
+use Rattle.std.specs.Prelude.{◌≡◌, ℕ, ◌+◌, ◌-◌, ◌<◌, List, [], length, map, take, drop, slice_index_or, Contains}
 use Rattle.std.specs.Arc.{arc_value}
 use Rattle.std.specs.declared.sync.Arc.{Arc}
 use Rattle.s2id_core.specs.CellId.{face_of}
@@ -43,3 +43,8 @@ pub record AreFirstParts (starts faces : List ℕ) : Type 0 where
   pub listed : (face : ℕ) → face < 6 → slice_index_or faces face 0 < length starts
   pub begins : (face : ℕ) → face < 6 → slice_index_or starts (slice_index_or faces face 0) 0 ≡ face_begin face
   pub end : slice_index_or faces 6 0 ≡ length starts
+
+-- the parts of a face, by these numbers
+abbrev pub parts_of_face : List SpanRanges → List ℕ → ℕ → List SpanRanges
+parts_of_face parts faces face =
+    take (slice_index_or faces (face + 1) 0 - slice_index_or faces face 0) (drop (slice_index_or faces face 0) parts)

@@ -45,6 +45,10 @@ AreBegins [] begins = 0 < length begins
 AreBegins (e ∷ es) [] = ⊥
 AreBegins (e ∷ es) (begin ∷ begins) = EntriesBeginFrom (e ∷ es) begin × AreBegins es begins
 
+-- parts, of which those with numbers from `first` on and before `end` give way to others
+abbrev pub with_parts : List SpanRanges → ℕ → ℕ → List SpanRanges → List SpanRanges
+with_parts parts first end made = take first parts ++ (made ++ drop end parts)
+
 -- lists hold what entries make of what neighbouring tables hold, over the leaves from one number up to another
 pub record IsChangedSpan (tables : List SpanRanges) (lists : List Collection) (entries : List Entry) (from to : ℕ) : Type 0 where
   pub neighbours : AreNeighbours from tables to

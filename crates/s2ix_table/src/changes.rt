@@ -1,4 +1,4 @@
-ghost use Rattle.std.specs.Prelude.{◌≡◌, count_by, map};
+ghost use Rattle.std.specs.Prelude.{◌≡◌, ◌≢◌, ◌<◌, ℕ, IfSome, true, false, count_by, map};
 ghost use Rattle.s2ix_table.specs.Faces.{faces, has_entry_on};
 
 use s2ix_bag_changes::Change;
@@ -33,4 +33,23 @@ pub fn changed_face_count(change: &Change) -> u8
         + u8::from(fourth)
         + u8::from(fifth)
         + u8::from(sixth)
+}
+
+// The face on which all entries of a change lie, if it is one.
+pub(crate) fn only_face(change: &Change) -> Option<u8>
+    ensures six { IfSome result (λ face. face < 6) }
+    ensures some { IfSome result (λ face. has_entry_on change.now face ≡ true) }
+    ensures only { IfSome result (λ face. (other : ℕ) → other < 6 → other ≢ face → has_entry_on change.now other ≡ false) }
+{
+    let changed = changed_faces(change);
+    let mut only = None;
+    for face in 0..6u8 {
+        if changed[usize::from(face)] {
+            if only.is_some() {
+                return None;
+            }
+            only = Some(face);
+        }
+    }
+    only
 }

@@ -1,4 +1,4 @@
-ghost use Rattle.std.specs.Prelude.{◌≡◌, ◌≤◌, ◌<◌, ◌+◌, ◌*◌, IfOk, IfSome, OnOk, length};
+ghost use Rattle.std.specs.Prelude.{◌≡◌, ◌≤◌, ◌<◌, ◌+◌, ◌*◌, IfOk, IfSome, OnErr, OnOk, length};
 ghost use Rattle.s2id_core.specs.BinaryDigits.{binary_digits};
 ghost use Rattle.s2id_core.specs.CellId.{raw_of};
 ghost use Rattle.s2ix_bag_pairs.specs.Change.{changed};
@@ -11,20 +11,24 @@ ghost use Rattle.s2ix_table_walk.specs.Places.{LeadsTo};
 ghost use Rattle.s2ix_table_walk.specs.Shown.{AreBorders};
 ghost use Rattle.s2ix_table_walk.specs.Table.{range_at, IsFound, IsRangeTable, leaf_end};
 ghost use Rattle.s2ix_table.specs.Faces.{changed_count, held_on};
-ghost use Rattle.s2ix_table.specs.FaceSpans.{BeginFaces, spans_of, table_of};
+ghost use Rattle.s2ix_table.specs.FaceSpans.{BeginFaces, parts_of_face, spans_of, table_of};
 ghost use Rattle.s2ix_table.specs.Joined.{held_in, joined_ranges, AreNeighbours};
 ghost use Rattle.s2ix_table.specs.Offsets.{HasOwn, HasRange, place_on, places_of};
 ghost use Rattle.s2ix_table.specs.OneProof.{joined-prop, joined_once-prop};
 ghost use Rattle.s2ix_table.specs.PartPlaces.{chain_from};
+ghost use Rattle.s2ix_table.specs.Parts.{with_parts};
 ghost use Rattle.s2ix_table.specs.Whole.{AreJoined};
 
 use crate::bag_reader::BagReader;
+use crate::changes::only_face;
+use crate::counting::count_from;
+use crate::new_parts::{NewParts, put_between};
 use crate::offset::{Offset, offset_by};
 use crate::pair_reader::PairReader;
 use crate::part_place::PartPlace;
 use crate::shares_chains::SharesChains;
 use crate::starts::{first_parts, start_by};
-use crate::tables::{read_tables, share, tables_after};
+use crate::tables::{read_parts_after, read_tables, share, tables_after};
 use s2id_core::{CellId, FACES, OutOfMemory};
 use s2ix_bag_changes::{Bag, Change};
 use s2ix_bag_pairs::Held;
@@ -198,11 +202,8 @@ impl SharesChains for FacedTable {
 }
 
 impl FacedTable {
-    /// The table after a change: `bag` reads the pairs that the change has made of this table's. The parts that an entry's cell touches are made
-    /// anew, the others are shared. With p pairs on the faces on which the change has entries and n in all it reads p to p + 12 *
-    /// digits(n + 1) pairs, for the binary digits of n + 1: a whole face at once, which a bag hands on as it is. Besides, it takes O(q + m + k)
-    /// for q parts, m entries and the k pairs of the parts made anew. `OutOfMemory` if a growth is refused; then too it has read at most so
-    /// many.
+    /// The table after a change, as [`rebuild`](FacedTable::rebuild) makes it, beside this one: the two share the parts that stay.
+    /// O(p) more for p parts. `OutOfMemory` if a growth is refused.
     pub fn rebuilt<B: PairReader>(
         &self,
         alloc: Global,
@@ -217,9 +218,69 @@ impl FacedTable {
         ensures reads_all { OnOk result (changed_count change.now (B.shown bag.old) ≤ B.spent bag.new) }
         ensures reads_few { B.spent bag.new ≤ changed_count change.now (B.shown bag.old) + 12 * binary_digits (length (B.shown bag.old) + 1) }
     {
-        let parts = tables_after(alloc, self, bag, change)?;
-        let table = FacedTable::together(alloc, parts)?;
+        let mut table = self.copied(alloc)?;
+        table.rebuild(alloc, bag, change)?;
         Ok(table)
+    }
+
+    /// Makes this table that of its pairs after a change: `bag` reads the pairs that the change has made of them. The parts that an entry's
+    /// cell touches are made anew, the others stay. With p pairs on the faces on which the change has entries and n in all it reads p to
+    /// p + 12 * digits(n + 1) pairs, for the binary digits of n + 1: a whole face at once, which a bag hands on as it is. Besides, it takes
+    /// O(q + m + k) for q parts, m entries and the k pairs of the parts made anew. `OutOfMemory` if a growth is refused: then the table
+    /// stays as it is, and it has read at most so many.
+    pub fn rebuild<B: PairReader>(
+        &mut self,
+        alloc: Global,
+        bag: &mut B,
+        change: &Change,
+    ) -> Result<(), OutOfMemory>
+        requires unread { B.spent bag.old ≡ 0 }
+        requires made { changed (⟦<FacedTable as RangeTable>⟧.pairs self.old) change.now ≡ B.shown bag.old }
+        ensures pairs { OnOk result (⟦<FacedTable as RangeTable>⟧.pairs self.new ≡ B.shown bag.old) }
+        ensures table { OnOk result (IsRangeTable (B.shown bag.old) (⟦<FacedTable as RangeTable>⟧.ranges self.new)) }
+        ensures stays { OnErr result (⟦<FacedTable as RangeTable>⟧.pairs self.new ≡ ⟦<FacedTable as RangeTable>⟧.pairs self.old) }
+        ensures same { B.shown bag.new ≡ B.shown bag.old }
+        ensures reads_all { OnOk result (changed_count change.now (B.shown bag.old) ≤ B.spent bag.new) }
+        ensures reads_few { B.spent bag.new ≤ changed_count change.now (B.shown bag.old) + 12 * binary_digits (length (B.shown bag.old) + 1) }
+    {
+        match only_face(change) {
+            Some(face) => {
+                let at = usize::from(face);
+                let new = read_parts_after(alloc, bag, face, self.parts_on(at), change)?;
+                self.put(new.on(self.faces[at]))?;
+                Ok(())
+            }
+            None => {
+                let parts = tables_after(alloc, self, bag, change)?;
+                *self = FacedTable::together(alloc, parts)?;
+                Ok(())
+            }
+        }
+    }
+
+    // Puts new parts into their places. O(p) for the p parts from the first one on. `OutOfMemory` if a growth is refused.
+    fn put(&mut self, new: NewParts) -> Result<(), OutOfMemory>
+        requires order { new.first ≤ new.end }
+        requires within { new.end ≤ length self.old.parts.items }
+        requires neighbours { AreNeighbours 1 (with_parts (spans_of self.old.parts.items) new.first new.end (spans_of new.parts.items)) leaf_end }
+        requires faces { BeginFaces (with_parts (spans_of self.old.parts.items) new.first new.end (spans_of new.parts.items)) }
+        requires few { length (held_in (with_parts (spans_of self.old.parts.items) new.first new.end (spans_of new.parts.items))) ≤ 1000000 }
+        ensures put { OnOk result (spans_of self.new.parts.items
+            ≡ with_parts (spans_of self.old.parts.items) new.first new.end (spans_of new.parts.items)) }
+        ensures stay { OnErr result (spans_of self.new.parts.items ≡ spans_of self.old.parts.items) }
+    {
+        let NewParts { first, end, parts } = new;
+        self.starts.reserve(parts.len())?;
+        self.offsets.reserve(parts.len())?;
+        put_between(&mut self.parts, first, end, parts)?;
+        self.count = count_from(
+            &self.parts,
+            first.max(1),
+            &mut self.starts,
+            &mut self.offsets,
+        );
+        self.faces = first_parts(&self.starts);
+        Ok(())
     }
 
     /// A copy of the table, which shares its parts. O(p) for p parts. `OutOfMemory` if a growth is refused, or a part is shared too often.
@@ -248,15 +309,9 @@ impl FacedTable {
     {
         let mut starts = Vec::with_capacity(alloc, parts.len())?;
         let mut offsets = Vec::with_capacity(alloc, parts.len())?;
-        let mut offset = Offset { place: 0, start: 1 };
-        starts.push(offset.start)?;
-        offsets.push(offset)?;
-        for next in 1..parts.len() {
-            offset = offset.after(&parts[next - 1], &parts[next]);
-            starts.push(parts[next].from())?;
-            offsets.push(offset)?;
-        }
-        let count = offset.place + parts[parts.len() - 1].range_count();
+        starts.push_reserved(1);
+        offsets.push_reserved(Offset { place: 0, start: 1 });
+        let count = count_from(&parts, 1, &mut starts, &mut offsets);
         let faces = first_parts(&starts);
         Ok(FacedTable {
             parts,
@@ -272,6 +327,7 @@ impl FacedTable {
         requires { face < 6 }
         ensures neighbours { AreNeighbours (face_begin face) (spans_of result.now) (face_begin (face + 1)) }
         ensures pairs { held_in (spans_of result.now) ≡ held_on face (held_in (spans_of self.now.parts.items)) }
+        ensures slice { spans_of result.now ≡ parts_of_face (spans_of self.now.parts.items) self.now.faces face }
     {
         &self.parts[self.faces[face]..self.faces[face + 1]]
     }

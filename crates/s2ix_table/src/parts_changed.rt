@@ -1,13 +1,14 @@
 //! The parts of a table after a change: made anew only where it changed something.
-ghost use Rattle.std.specs.Prelude.{◌≡◌, ℕ, ◌++◌, ◌<◌, ◌≤◌, ◌+◌, ◌*◌, [], IfOk, IfSome, OnOk, IsTrue, length, take, drop};
+ghost use Rattle.std.specs.Prelude.{◌≡◌, ℕ, ◌++◌, ◌<◌, ◌≤◌, ◌+◌, ◌*◌, [], IfOk, IfSome, OnOk, IsTrue, IsFalse, length, take, drop};
 ghost use Rattle.s2ix_bag_lists.specs.Faces.{all_of};
 ghost use Rattle.s2ix_bag_pairs.specs.Change.{IsChangeList, changed};
 ghost use Rattle.s2ix_bag_pairs.specs.Collection.{AreBelow, IsCollection, IsCollectionFrom};
 ghost use Rattle.s2ix_table_spans.specs.SpanTable.{IsInSpan, IsSpanTable};
 ghost use Rattle.s2ix_table.specs.FaceSpans.{spans_of, table_of};
 ghost use Rattle.s2ix_table.specs.Joined.{AreNeighbours, held_in};
-ghost use Rattle.s2ix_table.specs.Parts.{AreBegins, EntriesEndBy, IsChangedSpan, IsCut};
+ghost use Rattle.s2ix_table.specs.Parts.{AreBegins, EntriesEndBy, IsChangedSpan, IsCut, with_parts};
 
+use crate::new_parts::NewParts;
 use crate::parts::{in_one_list, next_cut, parts_over, seams_before};
 use s2id_core::OutOfMemory;
 use s2ix_bag_lists::{FlatHeld, HeldList};
@@ -16,10 +17,11 @@ use s2ix_table_spans::SpanTable;
 use std::alloc::Global;
 use std::sync::Arc;
 
-/// The parts of a table after a change, of the parts `before`, which together go over the leaves from the number `from` up to `to`. `held`
-/// is what the entries make of their pairs, in lists, each before the next one. A part that no entry's cell touches is shared; what the
-/// others hold is made anew, together with parts that a list reaches into. O(p + k + m) for p parts, m entries and the k pairs of the
-/// parts made anew. `OutOfMemory` if a growth is refused, or a part is shared too often.
+/// What a change makes of the parts `before` of a table, which together go over the leaves from the number `from` up to `to`. `held` is what
+/// the entries make of their pairs, in lists, each before the next one. The parts on both sides of all entries stay. Between them, a part
+/// that no entry's cell touches is shared; what the others hold is made anew, together with parts that a list reaches into. No clause says
+/// which parts stay, only the bench shows it. O(log p + q + m + k) for p parts, q of them from the first entry to the last one, m entries
+/// and the k pairs of the parts made anew. `OutOfMemory` if a growth is refused, or a part is shared too often.
 pub fn parts_after(
     alloc: Global,
     before: &[Arc<SpanTable>],
@@ -27,34 +29,36 @@ pub fn parts_after(
     entries: &[Entry],
     from: u64,
     to: u64,
-) -> Result<Vec<Arc<SpanTable>>, OutOfMemory>
+) -> Result<NewParts, OutOfMemory>
     requires neighbours { AreNeighbours from (spans_of before.now) to }
     requires made { changed (held_in (spans_of before.now)) entries.now ≡ all_of held.now }
     requires entries_rise { IsChangeList entries.now }
     requires rises { IsCollection (all_of held.now) }
     requires few { length (all_of held.now) ≤ 1000000 }
     requires span { IsInSpan (all_of held.now) from to }
-    ensures neighbours { IfOk result (λ parts. AreNeighbours from (spans_of parts.items) to) }
-    ensures pairs { IfOk result (λ parts. held_in (spans_of parts.items) ≡ all_of held.now) }
+    ensures order { IfOk result (λ new. new.first ≤ new.end) }
+    ensures within { IfOk result (λ new. new.end ≤ length before.now) }
+    ensures neighbours { IfOk result (λ new. AreNeighbours from
+        (with_parts (spans_of before.now) new.first new.end (spans_of new.parts.items))
+        to) }
+    ensures pairs { IfOk result (λ new. held_in (with_parts (spans_of before.now) new.first new.end (spans_of new.parts.items))
+        ≡ all_of held.now) }
 {
     let all_begins = begins_from(alloc, entries)?;
-    let mut parts = Vec::with_capacity(alloc, before.len())?;
-    let mut rest = Span {
+    let whole = Span {
         tables: before,
         lists: held,
         entries,
         from,
         to,
     };
-    let mut begins = all_begins.as_slice();
-    while !rest.tables.is_empty() {
-        let cut = rest.first_cut(begins);
-        rest.before(cut).push_changed(alloc, &mut parts)?;
-        let (_, later) = begins.split_at(cut.entries);
-        rest = rest.after(cut);
-        begins = later;
-    }
-    Ok(parts)
+    let front = whole.front_cut(all_begins.as_slice());
+    let (count, parts) = whole.after(front).made_anew(alloc, all_begins.as_slice())?;
+    Ok(NewParts {
+        first: front.tables,
+        end: front.tables + count,
+        parts,
+    })
 }
 
 // For each entry the least leaf number at which its cell or that of a later entry begins, and one more number. O(m) for m entries.
@@ -94,6 +98,78 @@ struct Cut {
 }
 
 impl<'a> Span<'a> {
+    // Whether there are no entries, so that the tables hold what they held, or no tables.
+    fn is_done(self) -> bool
+        requires { IsChangedSpan (spans_of self.tables.now) self.lists.now self.entries.now self.from self.to }
+        ensures pairs { IsTrue result → held_in (spans_of self.entry.tables.now) ≡ all_of self.entry.lists.now }
+        ensures some { IsFalse result → 0 < length self.entry.tables.now }
+    {
+        self.tables.is_empty() || self.entries.is_empty()
+    }
+
+    // The tables of the span after the change up to a seam behind all entries, and how many tables they take the place of. Those behind it
+    // stay.
+    fn made_anew(
+        self,
+        alloc: Global,
+        all_begins: &[u64],
+    ) -> Result<(usize, Vec<Arc<SpanTable>>), OutOfMemory>
+        requires changed { IsChangedSpan (spans_of self.tables.now) self.lists.now self.entries.now self.from self.to }
+        requires begins { AreBegins self.entries.now all_begins.now }
+        ensures within { IfOk result (λ made. made.0 ≤ length self.entry.tables.now) }
+        ensures neighbours { IfOk result (λ made. AreNeighbours self.entry.from
+            (spans_of made.1.items ++ drop made.0 (spans_of self.entry.tables.now))
+            self.entry.to) }
+        ensures pairs { IfOk result (λ made. held_in (spans_of made.1.items ++ drop made.0 (spans_of self.entry.tables.now))
+            ≡ all_of self.entry.lists.now) }
+    {
+        let mut rest = self;
+        let mut count = 0;
+        let mut parts = Vec::new(alloc);
+        let mut begins = all_begins;
+        while !rest.is_done() {
+            let cut = rest.first_cut(begins);
+            rest.before(cut).push_changed(alloc, &mut parts)?;
+            count += cut.tables;
+            let (_, later) = begins.split_at(cut.entries);
+            rest = rest.after(cut);
+            begins = later;
+        }
+        Ok((count, parts))
+    }
+
+    // A cut before all entries, if one is found not long before them, and else one before all tables.
+    fn front_cut(self, begins: &[u64]) -> Cut
+        requires changed { IsChangedSpan (spans_of self.tables.now) self.lists.now self.entries.now self.from self.to }
+        requires begins { AreBegins self.entries.now begins.now }
+        ensures entries { result.entries ≡ 0 }
+        ensures cut { IsCut (spans_of self.entry.tables.now) self.entry.lists.now self.entry.entries.now self.entry.from self.entry.to
+            result.tables result.lists result.entries result.seam }
+    {
+        let mut tables = last_by(self.tables, begins[0]);
+        while tables > 0 {
+            let seam = self.tables[tables].from();
+            let cut = Cut {
+                tables,
+                lists: lists_below(self.lists, seam),
+                entries: 0,
+                seam,
+                reach: self.from,
+            };
+            if self.is_clean(cut, begins) {
+                return cut;
+            }
+            tables -= 1;
+        }
+        Cut {
+            tables: 0,
+            lists: 0,
+            entries: 0,
+            seam: self.from,
+            reach: self.from,
+        }
+    }
+
     // The first cut after a table or more: no entry's cell goes over its seam, and a list ends there.
     fn first_cut(self, begins: &[u64]) -> Cut
         requires some { 0 < length self.tables.now }
@@ -272,6 +348,40 @@ impl<'a> Span<'a> {
         let seams = seams_before(alloc, self.lists, self.to)?;
         Ok(next_cut(self.lists, seams.as_slice(), self.from, self.to) == self.lists.len())
     }
+}
+
+// The number of the last table that begins by a leaf number, or 0 if only the first one may. O(log p) for p tables.
+fn last_by(tables: &[Arc<SpanTable>], leaf: u64) -> usize
+    ensures { 0 < result → result < length tables.now }
+{
+    let mut low = 0;
+    let mut high = tables.len();
+    while low < high {
+        let middle = low + (high - low) / 2;
+        if tables[middle].from() <= leaf {
+            low = middle + 1;
+        } else {
+            high = middle;
+        }
+    }
+    low.saturating_sub(1)
+}
+
+// How many lists have only cells with numbers below a seam. O(log l) for l lists.
+fn lists_below(lists: &[HeldList], seam: u64) -> usize
+    ensures { result ≤ length lists.now }
+{
+    let mut low = 0;
+    let mut high = lists.len();
+    while low < high {
+        let middle = low + (high - low) / 2;
+        if is_below(lists[middle].as_slice(), seam) {
+            low = middle + 1;
+        } else {
+            high = middle;
+        }
+    }
+    low
 }
 
 // The place of the first list, from a place on, that has a cell with a number from a seam on.

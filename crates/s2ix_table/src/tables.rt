@@ -5,11 +5,13 @@ ghost use Rattle.s2ix_table.specs.FaceSpans.{face_begin, spans_of};
 ghost use Rattle.s2ix_table.specs.Joined.{held_in, AreNeighbours};
 ghost use Rattle.s2ix_table.specs.PartsOf.{ArePartsOf};
 ghost use Rattle.s2ix_table.specs.Faces.{entries_on, held_on, changed_count};
+ghost use Rattle.s2ix_table.specs.Parts.{with_parts};
 ghost use Rattle.s2ix_table.specs.Reading.{HasRead, IsFaceRead, AreChangedRead, two_searches};
 
 use crate::changes::changed_faces;
 use crate::entries_on::entries_on;
 use crate::faced_table::FacedTable;
+use crate::new_parts::NewParts;
 use crate::pair_reader::PairReader;
 use crate::parts::parts_over;
 use crate::parts_changed::parts_after;
@@ -39,19 +41,24 @@ fn read_parts<B: PairReader>(
     parts_over(alloc, held.parts(), from, from + FACE_NUMBERS)
 }
 
-// The parts of a face after a change, of what a reader shows of it: those that the change leaves alone are shared.
-fn read_parts_after<B: PairReader>(
+// What a change makes of the parts of a face, of what a reader shows of it.
+pub(crate) fn read_parts_after<B: PairReader>(
     alloc: Global,
     reader: &mut B,
     face: u8,
     before: &[Arc<SpanTable>],
     change: &Change,
-) -> Result<Vec<Arc<SpanTable>>, OutOfMemory>
+) -> Result<NewParts, OutOfMemory>
     requires six { face < 6 }
     requires before { AreNeighbours (face_begin face) (spans_of before.now) (face_begin (face + 1)) }
     requires made { changed (held_in (spans_of before.now)) (entries_on face change.now) ≡ held_on face (B.shown reader.old) }
-    ensures neighbours { IfOk result (λ parts. AreNeighbours (face_begin face) (spans_of parts.items) (face_begin (face + 1))) }
-    ensures pairs { IfOk result (λ parts. held_in (spans_of parts.items) ≡ held_on face (B.shown reader.old)) }
+    ensures order { IfOk result (λ new. new.first ≤ new.end) }
+    ensures within { IfOk result (λ new. new.end ≤ length before.now) }
+    ensures neighbours { IfOk result (λ new. AreNeighbours (face_begin face)
+        (with_parts (spans_of before.now) new.first new.end (spans_of new.parts.items))
+        (face_begin (face + 1))) }
+    ensures pairs { IfOk result (λ new. held_in (with_parts (spans_of before.now) new.first new.end (spans_of new.parts.items))
+        ≡ held_on face (B.shown reader.old)) }
     ensures same { B.shown reader.new ≡ B.shown reader.old }
     ensures reads { OnOk result (IsFaceRead face (B.shown reader.old) (B.spent reader.old) (B.spent reader.new)) }
     ensures refused { HasRead 0
@@ -119,8 +126,8 @@ pub(crate) fn tables_after<B: PairReader>(
         let at = usize::from(face);
         let before = table.parts_on(at);
         if changed[at] {
-            let mut read = read_parts_after(alloc, reader, face, before, change)?;
-            after.append(&mut read)?;
+            let read = read_parts_after(alloc, reader, face, before, change)?;
+            read.push_all(before, &mut after)?;
         } else {
             share(&mut after, before)?;
         }

@@ -1,18 +1,17 @@
 -- Face by face, each when the change has an entry on it.
 use Rattle.std.proofs.Common.{ℕ, ◌<◌, ◌+◌, true, false, refl, sym, ap, ◌∙◌, subst, arith}
-use Rattle.std.specs.Arc.{arc_value}
-use Rattle.std.proofs.lemmas.List.{map-append}
 use Rattle.s2ix_bag_pairs.specs.Change.{changed}
 use Rattle.s2ix_bag_pairs.specs.Collection.{Collection}
 use Rattle.s2ix_table.specs.Faces.{entries_on, held_on}
 use Rattle.s2ix_table.specs.FaceSpans.{face_begin, spans_of}
 use Rattle.s2ix_table.specs.Joined.{held_in, AreNeighbours}
+use Rattle.s2ix_table.specs.Parts.{with_parts}
 use Rattle.s2ix_table.specs.Reading.{two_searches}
 use Rattle.s2ix_table.proofs.Making.{none_made, made_more, all_made}
 use Rattle.s2ix_table.proofs.Summing.{face_was_read, face_was_left, face_was_refused, refused_by, tested, nothing_read, all_read}
 use Rattle.s2ix_table.proofs.ChangedOnFaces.{changed_on_face}
 use Rattle.s2ix_table.proofs.Unchanged.{unchanged_stay}
-use Rattle.s2ix_table.proofs.tables.tables_after.Goals.{then-changed-at+in_ok-read+in_ok-append, else-changed-at+in_ok-share}
+use Rattle.s2ix_table.proofs.tables.tables_after.Goals.{then-changed-at+in_ok-read+in_ok-push_all, else-changed-at+in_ok-share}
 use Rattle.s2ix_table.proofs.tables.tables_after.Goals as goal
 
 pub loop-face-init : goal.loop-face-init
@@ -51,8 +50,8 @@ returns-in_err-read-clause-refused g c =
     let on = tested change changed.result face c.from-at.result true changed.ensures c.from-at.ensures within c.if-changed-at.true in
     face_was_refused change hs _ face _ _ _ within on i.2 i.1 c.read_parts_after.ensures.refused
 
-pub returns-in_err-append-clause-refused : goal.returns-in_err-append-clause-refused
-returns-in_err-append-clause-refused g c =
+pub returns-in_err-push_all-clause-refused : goal.returns-in_err-push_all-clause-refused
+returns-in_err-push_all-clause-refused g c =
     let change = c.args.change.now in
     let hs = g.B.PairReader.shown c.args.reader.now in
     let face : ℕ = c.loop-face.face in
@@ -82,12 +81,13 @@ loop-face-preserved g c =
     let within : face < 6 = c.loop-face-test.true in
     let changed = c.changed_faces-changed in
     elim c.if-changed-at.branch [
-      | then-changed-at+in_ok-read+in_ok-append w ↦
+      | then-changed-at+in_ok-read+in_ok-push_all w ↦
           (let on = tested change changed.result face c.from-at.result true changed.ensures c.from-at.ensures within w.if-changed-at.true in
           let r = w.in_ok-read.ensures in
-          let read = w.in_ok-read.read.items in
-          let put = ap (λ v. spans_of v.items) w.after-is ∙ ap (λ ts. spans_of ts) w.in_ok-append.ensures.items ∙ map-append arc_value c.loop-face.after.items read in (
-            made_more hs parts (spans_of read) now face i.0 within r.neighbours (r.pairs ∙ ap (held_on face) i.2) put,
+          let read = w.in_ok-read.read in
+          let new = with_parts (spans_of c.parts_on-before.result.now) read.first read.end (spans_of read.parts.items) in
+          let put = ap (λ v. spans_of v.items) w.after-is ∙ w.in_ok-push_all.ensures in (
+            made_more hs parts new now face i.0 within r.neighbours (r.pairs ∙ ap (held_on face) i.2) put,
             face_was_read change hs _ face _ _ _ _ on i.2 (ap g.B.PairReader.spent w.reader-is) i.1 r.reads,
             ap g.B.PairReader.shown w.reader-is ∙ r.same ∙ i.2,
           ))

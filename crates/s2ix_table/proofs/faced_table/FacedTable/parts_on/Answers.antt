@@ -30,3 +30,10 @@ returns-clause-pairs c =
     let n : ℕ = first_of_face t.faces (c.args.face + 1) - first in
     let same = ap (λ ts. spans_of (take n (drop first ts))) c.deref.ensures.value ∙ spans_between first n t.parts.items in
     ap (λ (ts : List SpanRanges). held_in ts) same ∙ (face_parts c.args.face t.joined c.requires).pairs
+
+pub returns-clause-slice : goal.returns-clause-slice
+returns-clause-slice c =
+    let t = c.args.self.now in
+    let first = first_of_face t.faces c.args.face in
+    let n : ℕ = first_of_face t.faces (c.args.face + 1) - first in
+    ap (λ ts. spans_of (take n (drop first ts))) c.deref.ensures.value ∙ spans_between first n t.parts.items

@@ -1,123 +1,68 @@
--- Part by part.
-use Rattle.std.proofs.Common.{◌≡◌, ℕ, ◌+◌, ◌-◌, ◌<◌, List, [], ◌∷◌, ◌++◌, length, sym, ◌∙◌, ap, arith, subst, AllPairs, Contains}
-use Rattle.s2ix_table_walk.specs.Table.{range_at, leaf_end}
+use Rattle.std.proofs.Common.{◌≡◌, ℕ, ◌<◌, ◌≤◌, List, [], ◌∷◌, ◌++◌, length, take, slice_index_or, sym, ◌∙◌, ap, arith, subst, AllPairs, Contains}
+use Rattle.s2ix_table_walk.specs.Table.{leaf_end}
 use Rattle.s2ix_table_spans.specs.SpanTable.{SpanRanges}
 use Rattle.s2ix_table.specs.declared.offset.Offset.{Offset}
-use Rattle.s2ix_table.specs.FaceSpans.{face_begin, spans_of, table_of, AreFirstParts}
+use Rattle.s2ix_table.specs.FaceSpans.{BeginFaces, face_begin, spans_of, starts_of, AreFirstParts}
+use Rattle.s2ix_table.specs.Joined.{held_in, joined_ranges, AreNeighbours}
+use Rattle.s2ix_table.specs.Offsets.{offsets_of}
 use Rattle.s2ix_table.proofs.Bordering.{parts_begin}
 use Rattle.s2ix_table.proofs.Cuts.{starts_rise}
 use Rattle.s2ix_table.proofs.Neighbours.{all_rise, joined_table}
 use Rattle.s2ix_table.proofs.Once.{parts_once}
-use Rattle.s2ix_table.proofs.Shared.{many_shared, seen_at}
-use Rattle.s2ix_table.proofs.Together.{up_to_first, up_to_next, last_few, all_starts, all_joined}
+use Rattle.s2ix_table.proofs.OneFace.{first_offset_of, first_start_of, some_parts}
+use Rattle.s2ix_table.proofs.Shared.{many_shared}
+use Rattle.s2ix_table.proofs.Together.{are_joined, first_start}
 use Rattle.s2ix_table.proofs.faced_table.FacedTable.together.Goals as goal
 
-pub loop-next-init : goal.loop-next-init
-loop-next-init c = (
-  omega arith,
-  up_to_first (spans_of c.args.parts.items) c.push.new.self.items c.push-2.new.self.items c.requires.neighbours
-      (c.in_ok-push.ensures.items ∙ ap (λ (ns : List ℕ). ns ++ 1 ∷ []) c.in_ok-starts.ensures.items)
-      (c.in_ok-push-2.ensures.items ∙ ap (λ (os : List Offset). os ++ record { place = 0; start = 1 } ∷ []) c.in_ok-offsets.ensures.items),
-)
-
-pub after-offset-requires : goal.after-offset-requires
-after-offset-requires c =
-    let i = c.loop-next.invariant in
-    let few = last_few (spans_of c.args.parts.items) c.loop-next.starts.items c.loop-next.offsets.items c.loop-next.offset c.loop-next.next
-    c.requires.neighbours c.requires.few i.1 i.0 in
-    record { few = omega arith }
-
-pub loop-next-preserved : goal.loop-next-preserved
-loop-next-preserved c =
+pub count_from-count-requires-clause-within : goal.count_from-count-requires-clause-within
+count_from-count-requires-clause-within c =
     let parts = c.args.parts.items in
-    let spans = spans_of parts in
-    let n = c.loop-next.next in
-    let i = c.loop-next.invariant in
-    let test = c.loop-next-test.true in
-    let within : n < length parts = omega (arith, test, c.len-next-end.ensures, c.args.parts.ok.0) in
-    let listed : n < length spans = omega (arith, within, many_shared parts) in
-    let some = i.0 in
-    let one = seen_at parts (n - 1) c.index.result.now c.deref.result.now (omega arith)
-    (c.deref.ensures ∙ ap (λ x. x.value) c.index.ensures) in
-    let next = seen_at parts n c.index-in-loop-next.result.now c.deref-in-loop-next.result.now within
-    (c.deref-in-loop-next.ensures ∙ ap (λ x. x.value) c.index-in-loop-next.ensures) in
-    let again = seen_at parts n c.index-in-loop-next-2.result.now c.deref-in-loop-next-2.result.now within
-    (c.deref-in-loop-next-2.ensures ∙ ap (λ x. x.value) c.index-in-loop-next-2.ensures) in
-    let begins = c.from.ensures.start ∙ ap (λ (s : SpanRanges). (range_at s.ranges 0).start) again in (
-      omega arith,
-      up_to_next spans c.loop-next.starts.items c.push-in-loop-next.new.self.items c.loop-next.offsets.items
-          c.push-in-loop-next-2.new.self.items c.loop-next.offset c.after-offset.result n c.deref.result.now c.deref-in-loop-next.result.now
-          c.from.result c.requires.neighbours i.1 i.0 listed one next c.after-offset.ensures.offset begins c.in_ok-push-3.ensures.items
-          c.in_ok-push-4.ensures.items,
-    )
+    let some = some_parts (spans_of parts) c.requires.neighbours in
+    omega (arith, some, many_shared parts, ap length c.deref.ensures.value)
 
-pub overflow_add-count : goal.overflow_add-count
-overflow_add-count c =
-    let parts = c.args.parts.items in
-    let spans = spans_of parts in
-    let n = c.loop-next.next in
-    let i = c.loop-next.invariant in
-    let test = c.loop-next-test.false in
-    let within = i.1.within in
-    let many = many_shared parts in
-    let all : n ≡ length spans = omega (arith, test, c.len-next-end.ensures, c.args.parts.ok.0) in
-    let some = i.0 in
-    let number : c.len-3.result - 1 ≡ n - 1 = omega (arith, c.len-3.ensures, c.args.parts.ok.0) in
-    let last = seen_at parts (c.len-3.result - 1) c.index-2.result.now c.deref-2.result.now (omega arith)
-    (c.deref-2.ensures ∙ ap (λ x. x.value) c.index-2.ensures) ∙ ap (table_of spans) number in
-    let few = last_few spans c.loop-next.starts.items c.loop-next.offsets.items c.loop-next.offset n c.requires.neighbours c.requires.few i.1 i.0 in
-    omega (arith, few, c.range_count.ensures, ap (λ (s : SpanRanges). length s.ranges) last)
+pub count_from-count-requires-clause-starts : goal.count_from-count-requires-clause-starts
+count_from-count-requires-clause-starts c =
+    ap (λ (ns : List ℕ). take 1 ns) (c.push_reserved.ensures.items ∙ ap (λ (ns : List ℕ). ns ++ 1 ∷ []) c.in_ok-starts.ensures.items)
+    ∙ sym (first_start_of (spans_of c.args.parts.items) c.requires.neighbours)
+    ∙ ap (λ ts. take 1 (starts_of (spans_of ts))) (sym c.deref.ensures.value)
+
+pub count_from-count-requires-clause-offsets : goal.count_from-count-requires-clause-offsets
+count_from-count-requires-clause-offsets c =
+    ap (λ (os : List Offset). take 1 os) (c.push_reserved-2.ensures.items
+    ∙ ap (λ (os : List Offset). os ++ record { place = 0; start = 1 } ∷ []) c.in_ok-offsets.ensures.items)
+    ∙ sym (first_offset_of (spans_of c.args.parts.items) c.requires.neighbours)
+    ∙ ap (λ ts. take 1 (offsets_of (spans_of ts))) (sym c.deref.ensures.value)
 
 pub first_parts-faces-requires-clause-rises : goal.first_parts-faces-requires-clause-rises
 first_parts-faces-requires-clause-rises c =
-    let parts = c.args.parts.items in
-    let spans = spans_of parts in
-    let n = c.loop-next.next in
-    let i = c.loop-next.invariant in
-    let test = c.loop-next-test.false in
-    let within = i.1.within in
-    let many = many_shared parts in
-    let all : n ≡ length spans = omega (arith, test, c.len-next-end.ensures, c.args.parts.ok.0) in
-    let are = all_starts spans c.loop-next.starts.items c.loop-next.offsets.items c.loop-next.offset n i.1 all in
-    subst (λ (ns : List ℕ). AllPairs (λ a b. a < b) ns) (sym (c.deref-3.ensures.value ∙ are)) (starts_rise 1 spans leaf_end c.requires.neighbours)
+    let spans = spans_of c.args.parts.items in
+    let begins = c.deref-2.ensures.value ∙ c.count_from-count.ensures.starts ∙ ap (λ ts. starts_of (spans_of ts)) c.deref.ensures.value in
+    subst (λ (ns : List ℕ). AllPairs (λ a b. a < b) ns) (sym begins) (starts_rise 1 spans leaf_end c.requires.neighbours)
 
 pub first_parts-faces-requires-clause-begins : goal.first_parts-faces-requires-clause-begins
 first_parts-faces-requires-clause-begins c =
-    let parts = c.args.parts.items in
-    let spans = spans_of parts in
-    let n = c.loop-next.next in
-    let i = c.loop-next.invariant in
-    let test = c.loop-next-test.false in
-    let within = i.1.within in
-    let many = many_shared parts in
-    let all : n ≡ length spans = omega (arith, test, c.len-next-end.ensures, c.args.parts.ok.0) in
-    let are = all_starts spans c.loop-next.starts.items c.loop-next.offsets.items c.loop-next.offset n i.1 all in
-    λ face lt. subst (λ (ns : List ℕ). Contains ns (face_begin face)) (sym (c.deref-3.ensures.value ∙ are)) (c.requires.faces face lt)
+    let begins = c.deref-2.ensures.value ∙ c.count_from-count.ensures.starts ∙ ap (λ ts. starts_of (spans_of ts)) c.deref.ensures.value in
+    λ face lt. subst (λ (ns : List ℕ). Contains ns (face_begin face)) (sym begins) (c.requires.faces face lt)
+
+pub first_parts-faces-requires-clause-first : goal.first_parts-faces-requires-clause-first
+first_parts-faces-requires-clause-first c =
+    let begins = c.deref-2.ensures.value ∙ c.count_from-count.ensures.starts ∙ ap (λ ts. starts_of (spans_of ts)) c.deref.ensures.value in
+    ap (λ (ns : List ℕ). slice_index_or ns 0 0) begins ∙ first_start (spans_of c.args.parts.items) c.requires.neighbours
 
 pub invariant_of-result : goal.invariant_of-result
 invariant_of-result c =
-    let parts = c.args.parts.items in
-    let spans = spans_of parts in
-    let n = c.loop-next.next in
-    let i = c.loop-next.invariant in
-    let test = c.loop-next-test.false in
-    let within = i.1.within in
-    let many = many_shared parts in
-    let all : n ≡ length spans = omega (arith, test, c.len-next-end.ensures, c.args.parts.ok.0) in
-    let some = i.0 in
-    let number : c.len-3.result - 1 ≡ n - 1 = omega (arith, c.len-3.ensures, c.args.parts.ok.0) in
-    let last = seen_at parts (c.len-3.result - 1) c.index-2.result.now c.deref-2.result.now (omega arith)
-    (c.deref-2.ensures ∙ ap (λ x. x.value) c.index-2.ensures) ∙ ap (table_of spans) number in
-    let firsts = subst (λ (ns : List ℕ). AreFirstParts ns c.first_parts-faces.result) c.deref-3.ensures.value c.first_parts-faces.ensures in
-    let whole =
-    all_joined spans c.loop-next.starts.items c.first_parts-faces.result c.loop-next.offsets.items c.loop-next.offset n _
-    c.deref-2.result.now c.requires.neighbours c.requires.few i.1 i.0 all firsts last
-    (ap (λ (k : ℕ). c.loop-next.offset.place + k) c.range_count.ensures) in
+    let spans = spans_of c.args.parts.items in
+    let are = c.requires.neighbours in
+    let seen = ap spans_of c.deref.ensures.value in
+    let whole = are_joined spans _ _ _ _ are c.requires.few (c.count_from-count.ensures.starts ∙ ap starts_of seen)
+    (c.count_from-count.ensures.offsets ∙ ap offsets_of seen)
+    (subst (λ (ns : List ℕ). AreFirstParts ns c.first_parts-faces.result) c.deref-2.ensures.value c.first_parts-faces.ensures)
+    (c.count_from-count.ensures.count ∙ ap (λ ts. length (joined_ranges ts)) seen) in
     record {
       joined = whole;
-      rises = all_rise 1 spans leaf_end c.requires.neighbours;
+      rises = all_rise 1 spans leaf_end are;
       few = c.requires.few;
-      table = joined_table 1 spans leaf_end (omega arith) c.requires.neighbours;
+      table = joined_table 1 spans leaf_end (omega arith) are;
       bordered = parts_begin whole;
-      once = parts_once 1 spans leaf_end c.requires.neighbours;
+      once = parts_once 1 spans leaf_end are;
     }
