@@ -64,11 +64,7 @@ pub(crate) fn apply_planned(alloc: Global, bag: &Bag, change: &Change) -> Result
 }
 
 // The bag that a recorded change makes of a bag. It can fail only for want of memory.
-pub(crate) fn apply_recorded(
-    alloc: Global,
-    bag: &Bag,
-    change: &Change,
-) -> Result<Bag, OutOfMemory>
+pub(crate) fn apply_recorded(alloc: Global, bag: &Bag, change: &Change) -> Result<Bag, OutOfMemory>
     requires fits { apply_refusal bag.now change.now ≡ None }
     ensures made { IfOk result (λ next. next ≡ with_held bag.now (changed bag.now.held change.now)) }
     ensures within { IfOk result (λ next. IsBag next) }

@@ -12,7 +12,7 @@ use Rattle.s2ix_edit.proofs.store.Store.record_change.Goals as goal
 is_recorded : (c : After-clear) →
     record {
       bag = c.in_ok-bag.bag;
-      done = c.push_change.new.changes.items;
+      done = c.push_reserved.new.self.items;
       undone = c.clear.new.self.items;
       faces_rebuilt = c.changed_face_count-faces.result;
     }
@@ -28,5 +28,5 @@ invariant_of-self-2 c =
     let taken = ap (λ (s : State). apply_refusal s.bag c.args.change) (sym c.self.view_is) ∙ c.in_ok-bag.ensures.fits in (
       stands_recorded c.args.self.now _ c.args.change (is_recorded d) (stood d) c.requires.room c.entries-number.ensures.rises
           (some_entries c.self.inside.bag c.args.change c.in_ok-bag.ensures.accepted) taken c.in_ok-bag.ensures.within,
-      c.in_ok-bag.ensures.table,
+      c.in_ok-rebuild_for.ensures.table,
     )

@@ -1,17 +1,25 @@
-use Rattle.std.proofs.Common.{◌-◌, List, length, ap, ◌∙◌}
+use Rattle.std.proofs.Common.{◌-◌, List, length, ap, ◌∙◌, subst}
 use Rattle.s2ix_bag_pairs.specs.declared.pair.Entry.{Entry}
 use Rattle.std.specs.List.{slice_get}
 use Rattle.s2ix_bag_pairs.specs.Change.{changed}
 use Rattle.s2ix_edit_plan.specs.State.{State, history_of}
 use Rattle.s2ix_edit_plan.specs.History.{one_back}
-use Rattle.s2ix_edit.specs.Steps.{with_held}
+use Rattle.s2ix_edit.specs.Steps.{with_held, IsShifted}
 use Rattle.s2ix_edit.proofs.Led.{edit_taken_back}
 use Rattle.s2ix_edit.proofs.AtCursor.{Undoes, history_undone, stands_undone, undoes_shifted}
-use Rattle.s2ix_edit.proofs.store.Store.undo.Goals.{In_ok-number}
+use Rattle.s2ix_edit.proofs.store.Store.undo.Goals.{After-shift_last-number}
 use Rattle.s2ix_edit.proofs.store.Store.undo.Goals as goal
 
+shifted : (c : After-shift_last-number)
+    → IsShifted c.self.inside.done.items c.self.inside.undone.items c.shift_last-number.new.from.items c.shift_last-number.new.to.items
+        c.shift_last-number.result
+shifted c =
+    subst (λ (es : List (List Entry)). IsShifted c.self.inside.done.items es c.shift_last-number.new.from.items c.shift_last-number.new.to.items
+    c.shift_last-number.result)
+    c.in_ok-make_room.ensures.stay c.shift_last-number.ensures
+
 -- the store inside, with its last change taken back
-takes_back : (c : In_ok-number) → Undoes
+takes_back : (c : After-shift_last-number) → Undoes
     (record {
       bag = c.self.inside.bag;
       done = c.self.inside.done.items;
@@ -20,28 +28,28 @@ takes_back : (c : In_ok-number) → Undoes
     })
     (record {
       bag = c.in_ok-bag.bag;
-      done = c.shift_last.new.from.items;
-      undone = c.shift_last.new.to.items;
+      done = c.shift_last-number.new.from.items;
+      undone = c.shift_last-number.new.to.items;
       faces_rebuilt = c.changed_face_count-faces.result;
     })
-    c.in_ok-number.ensures.shifted.last
+    (shifted c).last
 takes_back c =
     let bag = c.self.inside.bag in
-    undoes_shifted _ _ c.in-Some.last.now _ c.in_ok-number.ensures.shifted
+    undoes_shifted _ _ c.in-Some.last.now _ (shifted c)
     (c.in-Some.ensures.value ∙ ap (λ (xs : List (List Entry)). slice_get xs (length xs - 1)) c.deref.ensures.value)
     (c.in_ok-bag.ensures.made ∙ ap (λ (es : List Entry). with_held bag (changed bag.held es)) c.in_ok-inverse.ensures)
 
 pub invariant_of-self-2 : goal.invariant_of-self-2
 invariant_of-self-2 c = (
-  stands_undone _ _ _ c.self.invariant.0 (takes_back (goal.at.invariant_of-self-2 c).In_ok-number) c.in_ok-bag.ensures.within,
-  c.in_ok-bag.ensures.table,
+  stands_undone _ _ _ c.self.invariant.0 (takes_back (goal.at.invariant_of-self-2 c).After-shift_last-number) c.in_ok-bag.ensures.within,
+  c.in_ok-rebuild_for.ensures.table,
 )
 
 pub returns-clause-history : goal.returns-clause-history
 returns-clause-history c =
-    history_undone _ _ _ c.self.invariant.0 (takes_back (goal.at.returns-clause-history c).In_ok-number)
+    history_undone _ _ _ c.self.invariant.0 (takes_back (goal.at.returns-clause-history c).After-shift_last-number)
     ∙ ap (λ (s : State). one_back (history_of s)) c.self.view_is
 
 pub returns-clause-restores : goal.returns-clause-restores
 returns-clause-restores c =
-    λ s edit st is. edit_taken_back s _ _ edit _ st (c.self.view_is ∙ is) (takes_back (goal.at.returns-clause-restores c).In_ok-number)
+    λ s edit st is. edit_taken_back s _ _ edit _ st (c.self.view_is ∙ is) (takes_back (goal.at.returns-clause-restores c).After-shift_last-number)
