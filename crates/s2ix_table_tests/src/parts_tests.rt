@@ -9,7 +9,7 @@ use s2id_core::{CellId, LEAF_END};
 use s2id_samples::SET_UP;
 use s2ix_bag::{Bag, FlatHeld, Held, HeldList};
 use s2ix_bag_samples::{WIDEST, bag_of, change_of};
-use s2ix_table::{ChainTable, RangeTable, SpanTable, chain_at, parts_after, parts_over};
+use s2ix_table::{ChainTable, NewParts, RangeTable, SpanTable, chain_at, parts_after, parts_over};
 use std::alloc::Global;
 use std::sync::Arc;
 
@@ -113,6 +113,26 @@ fn agrees_up_to(parts: &[Arc<SpanTable>], from: u64, table: &ChainTable) -> u64 
     end
 }
 
+// The parts once new ones have taken their places.
+fn all_with(
+    alloc: Global,
+    before: &[Arc<SpanTable>],
+    new: NewParts,
+) -> Option<Vec<Arc<SpanTable>>> {
+    let NewParts { first, end, parts } = new;
+    let mut all = Vec::new(alloc);
+    for part in before.get(..first)? {
+        all.push(part.clone().ok()?).ok()?;
+    }
+    for part in parts {
+        all.push(part).ok()?;
+    }
+    for part in before.get(end..)? {
+        all.push(part.clone().ok()?).ok()?;
+    }
+    Some(all)
+}
+
 // Whether so many parts go over all leaves and show what a table of a bag shows.
 fn show_bag(alloc: Global, parts: &[Arc<SpanTable>], bag: &Bag, count: usize) -> Option<bool> {
     let table = ChainTable::build(alloc, bag).ok()?;
@@ -142,7 +162,8 @@ fn has_parts_after(alloc: Global, row: ChangeRow) -> Option<bool> {
     let next = bag.applied(alloc, &change).ok()?;
     let held = next.flat(alloc).ok()?;
     let lists = lists_of(alloc, held.as_slice(), size)?;
-    let after = parts_after(alloc, &parts, &lists, change.entries(), 1, LEAF_END).ok()?;
+    let new = parts_after(alloc, &parts, &lists, change.entries(), 1, LEAF_END).ok()?;
+    let after = all_with(alloc, &parts, new)?;
     show_bag(alloc, &after, &next, count)
 }
 
