@@ -3,24 +3,32 @@
 ghost use Rattle.std.specs.Prelude.{◌≡◌, ◌≤◌, drop, length, map, take};
 ghost use Rattle.s2ix_bag_pairs.specs.Label.{label_numbered};
 ghost use Rattle.s2ix_bag_pairs.specs.OfLabel.{held_of as held_with};
-ghost use Rattle.s2ix_c_calls.specs.Lists.{Puts, PutsPage, row_of, rows_with};
+ghost use Rattle.s2ix_c_calls.specs.Lists.{IsPut, Puts, PutsPage, row_of, rows_with};
+ghost use Rattle.s2ix_c_calls.specs.Status.{done};
 
 use crate::rows::{Row, row_for};
 use crate::status::{DONE, NO_LABEL, NO_ROOM};
 use s2ix_bag_pairs::Label;
 use s2ix_edit::Store;
+use s2ix_table::{BagReader, PairReader};
+
+// Writes the pairs from a place on: as many as the buffer has room for. O(p + k) for k of them in p parts, each of which costs a search.
+fn write_page<B: PairReader>(reader: &mut B, from: usize, out: &mut [Row]) -> usize
+    ensures { IsPut (map row_of (take (length out.old) (drop from (B.shown reader.old)))) done result out.old out.new }
+{
+    let rest = reader.len().saturating_sub(from);
+    let count = rest.min(out.len());
+    for place in 0..count {
+        out[place] = row_for(reader.read(from + place));
+    }
+    count
+}
 
 /// The pairs from a place on, counted from 0 in rising order: as many as the buffer has room for. `number` is how many are put.
 pub fn pairs_store(store: &Store, from: usize, out: &mut [Row], number: &mut usize) -> u32
     ensures { PutsPage from store.now result number.new out.old out.new }
 {
-    let bag = store.bag();
-    let rest = bag.len().saturating_sub(from);
-    let count = rest.min(out.len());
-    for place in 0..count {
-        out[place] = row_for(bag.held(from + place));
-    }
-    *number = count;
+    *number = write_page(&mut BagReader::new(store.bag()), from, out);
     DONE
 }
 

@@ -77,10 +77,10 @@ pub fn read_store(
         *is_empty = true;
         return NO_RANGE;
     }
-    let row = table.range(place);
+    let (row, first, _note) = table.read_near(place, 0);
     *start = row.start;
     *limit = row.limit;
-    *is_empty = table.first(place).is_none();
+    *is_empty = first.is_none();
     DONE
 }
 

@@ -1,0 +1,11 @@
+-- The rows so far are those of the first pairs of the page, and the reader shows the same pairs.
+use Rattle.std.proofs.Common.{◌≡◌, length, map, take, drop}
+use Rattle.s2ix_c_calls.specs.Lists.{row_of}
+use Rattle.s2ix_c_calls.proofs.listing.write_page.Given as goal
+
+abbrev pub invariant-loop-place : goal.invariant-loop-place
+invariant-loop-place g l =
+    (take l.place l.out ≡ map row_of (take l.place (drop l.from (g.B.PairReader.shown l.fn.reader))))
+    × (drop l.place l.out ≡ drop l.place l.initial.out)
+    × (length l.out ≡ length l.initial.out)
+    × (g.B.PairReader.shown l.reader ≡ g.B.PairReader.shown l.fn.reader)
