@@ -25,7 +25,8 @@ S2_CLASSES = ("s2cell_id", "s2cell_index", "s2cell_union")
 # (the library names the libraries of absl that it needs; what is compiled here needs some of them too)
 S2 = ("-Wl,--copy-dt-needed-entries", "-ls2")
 ARCHIVE = "[signed-by=/usr/share/keyrings/debian-archive-keyring.gpg] http://deb.debian.org/debian"
-PROGRAMS = {"session": ("session", "turns", "s2_side", "read_dump", "scene"), "script": ("script", "read_dump"), "texts": ("texts", "scene")}
+PROGRAMS = {"session": ("session", "turns", "s2_side", "read_dump", "scene"), "script": ("script", "read_dump"), "texts": ("texts", "scene"),
+            "edits": ("edits", "scene")}
 
 
 def say(text):
@@ -136,15 +137,28 @@ def make_library():
     os.replace(f"{OUT}/libours.new", library)
 
 
+def make_c_library():
+    """Makes the library for C, libs2ix.a."""
+    run([f"{TOP}/tools/build_library", OUT])
+
+
+def linked_with(program):
+    """What a program is linked with besides its own parts. (liblibc_c.a gives memory to a static library)"""
+    if program == "session":
+        return [*compiled_s2(), f"{OUT}/libours.a", f"{workspace.kit()}/c/liblibc_c.a"]
+    if program == "edits":
+        return [*compiled_s2(), f"{OUT}/libs2ix.a", "-lpthread"]
+    return compiled_s2()
+
+
 def make_programs():
     headers = [path for path in files_of(f"{BENCH}/cpp") if path.endswith(".h")]
     for program, parts in PROGRAMS.items():
         sources = [f"{BENCH}/cpp/{part}.cpp" for part in parts]
-        # (liblibc_c.a gives memory to a static library)
-        linked = [*compiled_s2(), f"{OUT}/libours.a", f"{workspace.kit()}/c/liblibc_c.a"] if program == "session" else compiled_s2()
-        if not is_current(f"{OUT}/{program}", [*sources, *headers, *linked]):
+        linked = linked_with(program)
+        if not is_current(f"{OUT}/{program}", [*sources, *headers, *(path for path in linked if os.path.isabs(path))]):
             say(f"compiling {program}")
-            run(["g++", *FLAGS, f"-I{BENCH}/cpp", *sources, *linked, *S2, "-o", f"{OUT}/{program}"])
+            run(["g++", *FLAGS, f"-I{BENCH}/cpp", f"-I{TOP}/include", *sources, *linked, *S2, "-o", f"{OUT}/{program}"])
 
 
 def make_all():
@@ -154,4 +168,5 @@ def make_all():
     install_packages()
     make_s2()
     make_library()
+    make_c_library()
     make_programs()

@@ -13,6 +13,10 @@ from making import OUT, TOP, say
 
 # A figure of one operation, ours and S2's: nanoseconds, milliseconds, bytes or instructions.
 Figure = collections.namedtuple("Figure", "ours s2")
+# What S2 has not: the nanoseconds of one operation, the median of many and the most; or their mean, and None.
+Alone = collections.namedtuple("Alone", "middle most")
+# After so many random edits points are asked again.
+CHANGES = 800_000
 MOST_COUNTED = 100_000
 # How often a script's lines are repeated, so that they take long beside a load.
 REPEATS = 5
@@ -30,7 +34,7 @@ class Measured:
 
     def __init__(self, sizes):
         self.sizes = sizes
-        self.times, self.programs, self.instructions = {}, {}, {}
+        self.times, self.programs, self.instructions, self.edits = {}, {}, {}, {}
 
     def measure_sessions(self, seconds):
         for size in self.sizes:
@@ -38,6 +42,13 @@ class Measured:
             with_ids = ["ids"] if size == self.sizes[0] else []
             for name, count, ours, s2 in session_lines([f"{OUT}/session", str(size), str(seconds), "time", *with_ids]):
                 self.times[name, size] = Figure(ours / count, s2 / count)
+
+    def measure_edits(self):
+        for size in self.sizes:
+            say(f"measuring edits and copies of {size:,} pairs")
+            for line in lines_of([f"{OUT}/edits", str(size), str(CHANGES)]):
+                name, middle, *most = line.split("\t")
+                self.edits[name, size] = Alone(float(middle), float(most[0]) if most else None)
 
     def measure_programs(self):
         say("the program: ./s2ix, which is proved and built first if it is missing")
@@ -58,12 +69,17 @@ class Measured:
                     self.instructions[name, size] = figure
 
 
-def session_lines(words):
-    """The figures that a session prints: name, operations of an order, and what ours and S2 took for an order."""
+def lines_of(words):
+    """The lines that a program of the bench prints."""
     ran = subprocess.run(words, stdout=subprocess.PIPE, text=True)
     if ran.returncode:
-        sys.exit("bench: a session failed")
-    for line in ran.stdout.splitlines():
+        sys.exit(f"bench: this failed: {' '.join(words)}")
+    return ran.stdout.splitlines()
+
+
+def session_lines(words):
+    """The figures that a session prints: name, operations of an order, and what ours and S2 took for an order."""
+    for line in lines_of(words):
         name, count, ours, s2 = line.split("\t")
         if name != "nothing":
             yield name, int(count), float(ours), float(s2)

@@ -50,6 +50,20 @@ def index_table(measured):
     return table_of(measured.times, names_of(measured.times, is_of_index), measured.sizes, "ns, ours : S2")
 
 
+def alone(figure):
+    """A figure that S2 has not, in microseconds."""
+    most = "" if figure.most is None else f" ({digits(figure.most / 1000)})"
+    return digits(figure.middle / 1000) + most
+
+
+def edits_table(measured):
+    yield f"| µs, the median (the most) | {' | '.join(f'{size:,}' for size in measured.sizes)} |"
+    yield f"|---|{'---|' * len(measured.sizes)}"
+    for name in names_of(measured.edits):
+        cells = [alone(measured.edits[name, size]) for size in measured.sizes]
+        yield f"| {name} | {' | '.join(cells)} |"
+
+
 def ids_table(measured):
     size = measured.sizes[0]
     yield "| ns, ours : S2 | |"
@@ -69,7 +83,7 @@ def instructions_table(measured):
 
 def tables(measured):
     """All tables as one text."""
-    parts = [index_table(measured), ids_table(measured), programs_table(measured)]
+    parts = [index_table(measured), edits_table(measured), ids_table(measured), programs_table(measured)]
     if measured.instructions:
         parts.append(instructions_table(measured))
     return "\n\n".join("\n".join(part) for part in parts)
@@ -120,7 +134,7 @@ def write(measured):
         counted = "\n".join(["", "## Instructions", "", COUNTED, "", *instructions_table(measured), ""])
     text = PAGE.format(
         machine=machine(), system=system(), s2=making.version_of("libs2-dev"), compiler=said_by("g++", "--version").splitlines()[0],
-        index=joined(index_table(measured)), ids=joined(ids_table(measured)), programs=joined(programs_table(measured)),
+        index=joined(index_table(measured)), edits=joined(edits_table(measured)), ids=joined(ids_table(measured)), programs=joined(programs_table(measured)),
         ahead=behind, counted=counted)
     with open(f"{making.TOP}/docs/PERFORMANCE.md", "w", encoding="utf-8") as file:
         file.write(text)
@@ -162,6 +176,14 @@ world.
 - *Point*: `chain_at`, beside a `RangeIterator` and a `ContentsIterator`; `visit`, beside `VisitIntersectingCells`.
 - *Labels*: `labels`, a new rising list, beside the `GetIntersectingLabels` that returns a new hash set.
 - *Bytes*: what the allocator gave for bag and table of a store, which can be edited, beside S2's index.
+
+## Edits and copies
+
+{edits}
+
+S2 has neither. Each edit is one call of the library for C, on a store that can undo it: of the first line the mean, of the others the median
+of 50 to 200, and the most in brackets. Pairs are taken away and put back in turns; 50 cells of one town come under a label of their own,
+which is renamed, grows and goes. Points are asked before and after 800,000 random edits.
 
 ## Single cells and unions
 
