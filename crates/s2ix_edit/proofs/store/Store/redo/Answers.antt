@@ -11,7 +11,7 @@ use Rattle.s2ix_edit.proofs.store.Store.redo.Goals as goal
 
 shifted : (c : After-shift_last-number)
     → IsShifted c.self.inside.undone.items c.self.inside.done.items c.shift_last-number.new.from.items c.shift_last-number.new.to.items
-        c.shift_last-number.result
+    c.shift_last-number.result
 shifted c =
     subst (λ (es : List (List Entry)). IsShifted c.self.inside.undone.items es c.shift_last-number.new.from.items c.shift_last-number.new.to.items
     c.shift_last-number.result)

@@ -12,7 +12,7 @@ use Rattle.s2ix_edit.proofs.store.Store.undo.Goals as goal
 
 shifted : (c : After-shift_last-number)
     → IsShifted c.self.inside.done.items c.self.inside.undone.items c.shift_last-number.new.from.items c.shift_last-number.new.to.items
-        c.shift_last-number.result
+    c.shift_last-number.result
 shifted c =
     subst (λ (es : List (List Entry)). IsShifted c.self.inside.done.items es c.shift_last-number.new.from.items c.shift_last-number.new.to.items
     c.shift_last-number.result)
