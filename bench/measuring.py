@@ -13,7 +13,7 @@ from making import OUT, TOP, say
 
 # A figure of one operation, ours and S2's: nanoseconds, milliseconds, bytes or instructions.
 Figure = collections.namedtuple("Figure", "ours s2")
-# What S2 has not: the nanoseconds of one operation, the median of many and the most; or their mean, and None.
+# What S2 doesn't have: the nanoseconds of one operation, the median of many and the most; or their mean, and None.
 Alone = collections.namedtuple("Alone", "middle most")
 # After so many random edits points are asked again.
 CHANGES = 800_000
@@ -22,7 +22,7 @@ MOST_COUNTED = 100_000
 REPEATS = 5
 SCRIPTS = ("load", "at", "meet 8", "labels 8", "meet 8 apart", "labels 8 apart", "meet 500", "meet 500 apart")
 # The figures of the index have a name of these; the others don't depend on the pairs.
-OF_INDEX = ("adds and build", "build of six tables", "load of a dump", "edit with a query", "point", "8 cells", "500 cells", "bytes a pair")
+OF_INDEX = ("adds and build", "build of a table", "load of a dump", "edit with a query", "point", "8 cells", "500 cells", "bytes a pair")
 
 
 def is_of_index(name):

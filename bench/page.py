@@ -7,7 +7,7 @@ import subprocess
 import making
 from measuring import is_of_index
 
-UNITS = {"adds and build": "a pair", "build of six tables": "a pair", "load of a dump": "a pair", "edit with a query": "an edit",
+UNITS = {"adds and build": "a pair", "build of a table": "a pair", "load of a dump": "a pair", "edit with a query": "an edit",
          "point": "a point", "8 cells": "a target", "500 cells": "a target"}
 
 
@@ -51,7 +51,7 @@ def index_table(measured):
 
 
 def alone(figure):
-    """A figure that S2 has not, in microseconds."""
+    """A figure that S2 doesn't have, in microseconds."""
     most = "" if figure.most is None else f" ({digits(figure.most / 1000)})"
     return digits(figure.middle / 1000) + most
 
@@ -169,8 +169,8 @@ The pairs are nested delivery zones: each shop has three, of 1, 5 and 5 cells of
 shops lie in towns on all six faces. Points lie in zones. A target of 8 or of 500 cells lies in one town, or, *apart*, in zones all over the
 world.
 
-- *Adds and build*: pairs in no order become a store with its six tables, beside S2's `Add` for each pair and `Build`.
-- *Build of six tables*: a bag, whose pairs are sorted already, gets its tables, beside the same `Add` and `Build`, which sorts.
+- *Adds and build*: pairs in no order become a store with its table, beside S2's `Add` for each pair and `Build`.
+- *Build of a table*: a bag, whose pairs are sorted already, gets its table, beside the same `Add` and `Build`, which sorts.
 - *Load*: a dump is read from memory into a store, beside a plain reader that tests nothing, and `Build`.
 - *Edit with a query*: a pair is removed from a store or added to it, and a point asked. S2 has no edits: its index is built again.
 - *Point*: `chain_at`, beside a `RangeIterator` and a `ContentsIterator`; `visit`, beside `VisitIntersectingCells`.
@@ -181,8 +181,8 @@ world.
 
 {edits}
 
-S2 has neither. Each edit is one call of the library for C, on a store that can undo it: of the first line the mean, of the others the median
-of 50 to 200, and the most in brackets. Pairs are taken away and put back in turns; 50 cells of one town come under a label of their own,
+S2 has neither. Each edit is one call of the library for C, on a store that can undo it. A figure is the median of 50 calls or more, with the
+most in brackets; one without brackets is a mean. Pairs are taken away and put back in turns. 50 cells of one town get a label of their own,
 which is renamed, grows and goes. Points are asked before and after 800,000 random edits.
 
 ## Single cells and unions

@@ -1,8 +1,7 @@
 """A workspace: a copy of some crates and of those below them, for rt ci to prove and build there.
 
 rt ci proves all that crates.txt names. In a workspace it finds the crates that are wanted and no other, without their wrong bodies, and
-proves as many side by side as there are processors. What it proves is kept on this machine by the checksums of all that it read, so that
-neither another workspace nor ./test proves it again.
+proves as many side by side as there are processors. A workspace proves all anew; only the parts of ./test share one (see proved).
 """
 import contextlib
 import functools

@@ -1,4 +1,4 @@
-// A bench of what S2 has not, over the library for C: edits PAIRS CHANGES. A line for each figure: its name, and the nanoseconds of the
+// A bench of what S2 doesn't have, over the library for C: edits PAIRS CHANGES. A line for each figure: its name, and the nanoseconds of the
 // processor for one operation, the median of many and the most, or a mean alone. After CHANGES random edits points are asked again.
 #include <s2ix.h>
 #include <time.h>

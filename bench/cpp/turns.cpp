@@ -63,7 +63,7 @@ void Turns::AddFigures(const Scene& scene, bool has_ids) {
          many = scene.many.size() / kManyCells, shapes = scene.shapes.size() / kShapeCells, cells = scene.mixed.size();
   figures_ = {{"nothing", kNothing, 1, 0},
               {"adds and build", kBuild, pairs, 0},
-              {"build of six tables", kTables, pairs, 0},
+              {"build of a table", kTables, pairs, 0},
               {"load of a dump", kLoad, pairs, 0},
               {"edit with a query", kEdit, 2 * scene.edited_cells.size(), 0},
               {"point, chain_at", kPointChain, points, 2},

@@ -138,7 +138,7 @@ impl<'a> Span<'a> {
         Ok((count, parts))
     }
 
-    // A cut before all entries, if one is found not long before them, and else one before all tables.
+    // The last cut before all entries, or one before all tables if there is no other.
     fn front_cut(self, begins: &[u64]) -> Cut
         requires changed { IsChangedSpan (spans_of self.tables.now) self.lists.now self.entries.now self.from self.to }
         requires begins { AreBegins self.entries.now begins.now }
