@@ -26,6 +26,9 @@ pub mod Parting
 pub mod Cutting
 pub mod Making
 pub mod Together
+pub mod Moving
+pub mod Replaced
+pub mod Put
 pub mod ChangedOnFaces
 pub mod ReadParts
 pub mod OneFace

@@ -1,5 +1,5 @@
 -- A change on one face alone: the parts of the others stay.
-use Rattle.std.proofs.Common.{◌≡◌, ◌≢◌, ℕ, zero, suc, ◌+◌, ◌-◌, ◌*◌, ◌<◌, ◌≤◌, inl, inr, true, false, List, [], ◌∷◌, ◌++◌, length, max, take, drop, refl, sym, ◌∙◌, ap, ap₂, arith, subst, append_assoc}
+use Rattle.std.proofs.Common.{◌≡◌, ◌≢◌, ℕ, zero, suc, ◌+◌, ◌-◌, ◌*◌, ◌<◌, ◌≤◌, inl, inr, true, false, List, [], ◌∷◌, ◌++◌, length, take, drop, refl, sym, ◌∙◌, ap, ap₂, arith, subst, append_assoc}
 use Rattle.std.proofs.Math.Seq.{take-add}
 use Rattle.std.proofs.lemmas.Bool.{cases_lt}
 use Rattle.std.proofs.lemmas.List.{take-append-drop, take_rest, length-append, length-drop, length-map, length-take-le, map-append}
@@ -12,18 +12,17 @@ use Rattle.s2ix_table_walk.specs.Table.{leaf_end}
 use Rattle.s2ix_table_spans.specs.SpanTable.{SpanRanges}
 use Rattle.s2ix_table.specs.declared.offset.Offset.{Offset}
 use Rattle.s2ix_table.specs.Faces.{changed_count, has_entry_on, held_on}
-use Rattle.s2ix_table.specs.FaceSpans.{face_begin, parts_of_face, spans_of, starts_of}
+use Rattle.s2ix_table.specs.FaceSpans.{face_begin, parts_of_face, spans_of}
 use Rattle.s2ix_table.specs.Joined.{held_in, AreNeighbours}
-use Rattle.s2ix_table.specs.Offsets.{offset_after, offsets_from, offsets_of}
+use Rattle.s2ix_table.specs.Offsets.{offset_after, offsets_from}
 use Rattle.s2ix_table.specs.Parts.{with_parts}
 use Rattle.s2ix_table.specs.PartsOf.{ArePartsOf}
 use Rattle.s2ix_table.specs.Reading.{HasRead, IsFaceRead, two_searches}
 use Rattle.s2ix_table.specs.Whole.{AreJoined}
-use Rattle.s2ix_table.proofs.Cuts.{cut, cut_after}
+use Rattle.s2ix_table.proofs.Cuts.{cut_after}
 use Rattle.s2ix_table.proofs.Cutting.{spans_taken, spans_dropped}
 use Rattle.s2ix_table.proofs.FirstParts.{face_cut, face_parts, faces_rise, first_of_face}
 use Rattle.s2ix_table.proofs.Making.{AreMade, none_made, made_more, all_made}
-use Rattle.s2ix_table.proofs.Reading.{first_offset}
 use Rattle.s2ix_table.proofs.Summing.{AreReadBelow, nothing_read, face_left, face_read, refused_at}
 use Rattle.s2ix_table.proofs.Unchanged.{unchanged_stay}
 
@@ -73,14 +72,8 @@ spans_with parts made f e =
     ∙ ap (λ xs. spans_of (take f parts) ++ xs) (map-append arc_value made (drop e parts))
     ∙ ap₂ (λ xs ys. xs ++ (spans_of made ++ ys)) (spans_taken f parts) (spans_dropped e parts)
 
--- where those before them begin stays
-pub starts_front : (n : ℕ) (parts others : List SpanRanges) → n ≤ length parts
-    → take n (starts_of (take n parts ++ others)) ≡ take n (starts_of parts)
-starts_front zero parts others le = refl
-starts_front (suc n) [] others le = absurd (omega arith)
-starts_front (suc n) (t ∷ ts) others le = ap (λ ns. t.from ∷ ns) (starts_front n ts others (omega arith))
-
-first_alone : (o : Offset) (t : SpanRanges) (ts : List SpanRanges) → take 1 (offsets_from o (t ∷ ts)) ≡ o ∷ []
+-- the offsets of those before them stay
+pub first_alone : (o : Offset) (t : SpanRanges) (ts : List SpanRanges) → take 1 (offsets_from o (t ∷ ts)) ≡ o ∷ []
 first_alone o t [] = refl
 first_alone o t (u ∷ us) = refl
 
@@ -96,38 +89,6 @@ offsets_front (suc (suc n)) o (t ∷ u ∷ us) others le =
 pub some_parts : (ts : List SpanRanges) → AreNeighbours 1 ts leaf_end → 0 < length ts
 some_parts [] are = absurd (omega (arith, are))
 some_parts (t ∷ ts) are = omega arith
-
-pub first_start_of : (ts : List SpanRanges) → AreNeighbours 1 ts leaf_end → take 1 (starts_of ts) ≡ 1 ∷ []
-first_start_of [] are = absurd (omega (arith, are))
-first_start_of (t ∷ ts) are = ap (λ (k : ℕ). k ∷ []) are.0
-
-pub first_offset_of : (ts : List SpanRanges) → AreNeighbours 1 ts leaf_end → take 1 (offsets_of ts) ≡ first_offset ∷ []
-first_offset_of [] are = absurd (omega (arith, are))
-first_offset_of (t ∷ ts) are = first_alone first_offset t ts
-
--- the first start and the first offset are the same whatever gives way
-pub starts_kept : (n : ℕ) (parts others : List SpanRanges) → n ≤ length parts → AreNeighbours 1 parts leaf_end
-    → AreNeighbours 1 (take n parts ++ others) leaf_end
-    → take (max n 1) (starts_of parts) ≡ take (max n 1) (starts_of (take n parts ++ others))
-starts_kept zero parts others le are new =
-    let one : max 0 1 ≡ 1 = omega arith in
-    ap (λ k. take k (starts_of parts)) one ∙ first_start_of parts are ∙ sym (first_start_of others new) ∙ ap (λ k. take k (starts_of others)) (sym one)
-starts_kept (suc n) parts others le are new =
-    let more : max (suc n) 1 ≡ suc n = omega arith in
-    ap (λ k. take k (starts_of parts)) more ∙ sym (starts_front (suc n) parts others le)
-    ∙ ap (λ k. take k (starts_of (take (suc n) parts ++ others))) (sym more)
-
-pub offsets_kept : (n : ℕ) (parts others : List SpanRanges) → n ≤ length parts → AreNeighbours 1 parts leaf_end
-    → AreNeighbours 1 (take n parts ++ others) leaf_end
-    → take (max n 1) (offsets_of parts) ≡ take (max n 1) (offsets_of (take n parts ++ others))
-offsets_kept zero parts others le are new =
-    let one : max 0 1 ≡ 1 = omega arith in
-    ap (λ k. take k (offsets_of parts)) one ∙ first_offset_of parts are ∙ sym (first_offset_of others new)
-    ∙ ap (λ k. take k (offsets_of others)) (sym one)
-offsets_kept (suc n) parts others le are new =
-    let more : max (suc n) 1 ≡ suc n = omega arith in
-    ap (λ k. take k (offsets_of parts)) more ∙ sym (offsets_front (suc n) first_offset parts others le)
-    ∙ ap (λ k. take k (offsets_of (take (suc n) parts ++ others))) (sym more)
 
 -- how many there are then
 pub length_with : {A : Type 0} (f e : ℕ) (xs ys : List A) → f ≤ e → e ≤ length xs

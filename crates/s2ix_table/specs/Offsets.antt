@@ -1,5 +1,5 @@
 -- Where the ranges of each table stand among the joined ones.
-use Rattle.std.specs.Prelude.{ℕ, ◌+◌, ◌-◌, ◌<◌, ◌==◌, ◌&&◌, if◌then◌else◌, Bool, List, [], ◌∷◌, length, map, slice_index_or}
+use Rattle.std.specs.Prelude.{◌≡◌, ℕ, ◌+◌, ◌-◌, ◌<◌, ◌≤◌, ◌==◌, ◌&&◌, if◌then◌else◌, Bool, List, [], ◌∷◌, length, map, drop, slice_index_or}
 use Rattle.s2ix_table_walk.specs.Table.{Range, range_at}
 use Rattle.s2ix_table_spans.specs.SpanTable.{SpanRanges}
 use Rattle.s2ix_table_spans.specs.Starts.{IsLastStart}
@@ -48,3 +48,20 @@ pub record HasRange (parts : List SpanRanges) (part own : ℕ) : Type 0 where
 pub record HasOwn (offsets : List Offset) (count part own : ℕ) : Type 0 where
   pub last : IsLastStart (places_of offsets) (place_on offsets part own) part
   pub within : place_on offsets part own < count
+
+-- the offset of a part, by the part's number
+abbrev pub offset_at : List Offset → ℕ → Offset
+offset_at offsets part = slice_index_or offsets part (record { place = 0; start = 0 })
+
+-- from a part on offsets are those of the tables there, if the first of them is that of its table
+abbrev pub AreOffsetsFrom : ℕ → List Offset → List SpanRanges → Type 0
+AreOffsetsFrom part offsets tables = drop part offsets ≡ offsets_from (offset_at offsets part) (drop part tables)
+
+-- an offset whose place is moved as far as from one place to another
+abbrev pub moved : ℕ → ℕ → Offset → Offset
+moved from to offset = record { place = offset.place - from + to; start = offset.start }
+
+-- offsets whose places can be moved so: none lies before the one place, and none gets too great
+abbrev pub AreMovable : ℕ → ℕ → List Offset → Type 0
+AreMovable from to [] = Unit {0}
+AreMovable from to (offset ∷ offsets) = (from ≤ offset.place) × (offset.place - from + to ≤ 4000000) × AreMovable from to offsets

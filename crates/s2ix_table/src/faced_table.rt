@@ -21,7 +21,7 @@ ghost use Rattle.s2ix_table.specs.Whole.{AreJoined};
 
 use crate::bag_reader::BagReader;
 use crate::changes::only_face;
-use crate::counting::count_from;
+use crate::counting::{begins_of, count_from, uncounted};
 use crate::new_parts::{NewParts, put_between};
 use crate::offset::{Offset, offset_by};
 use crate::pair_reader::PairReader;
@@ -247,7 +247,7 @@ impl FacedTable {
             Some(face) => {
                 let at = usize::from(face);
                 let new = read_parts_after(alloc, bag, face, self.parts_on(at), change)?;
-                self.put(new.on(self.faces[at]))?;
+                self.put(alloc, new.on(self.faces[at]))?;
                 Ok(())
             }
             None => {
@@ -258,8 +258,8 @@ impl FacedTable {
         }
     }
 
-    // Puts new parts into their places. O(p) for the p parts from the first one on. `OutOfMemory` if a growth is refused.
-    fn put(&mut self, new: NewParts) -> Result<(), OutOfMemory>
+    // Puts new parts into their places. O(p) for the p parts from the first one on. `OutOfMemory` if a growth is refused: then all stay.
+    fn put(&mut self, alloc: Global, new: NewParts) -> Result<(), OutOfMemory>
         requires order { new.first ≤ new.end }
         requires within { new.end ≤ length self.old.parts.items }
         requires neighbours { AreNeighbours 1 (with_parts (spans_of self.old.parts.items) new.first new.end (spans_of new.parts.items)) leaf_end }
@@ -270,15 +270,16 @@ impl FacedTable {
         ensures stay { OnErr result (spans_of self.new.parts.items ≡ spans_of self.old.parts.items) }
     {
         let NewParts { first, end, parts } = new;
-        self.starts.reserve(parts.len())?;
-        self.offsets.reserve(parts.len())?;
-        put_between(&mut self.parts, first, end, parts)?;
-        self.count = count_from(
-            &self.parts,
-            first.max(1),
-            &mut self.starts,
-            &mut self.offsets,
-        );
+        let count = parts.len();
+        let starts = begins_of(alloc, &parts)?;
+        let offsets = uncounted(alloc, count)?;
+        self.parts.reserve(count)?;
+        self.starts.reserve(count)?;
+        self.offsets.reserve(count)?;
+        put_between(&mut self.parts, first, end, parts);
+        put_between(&mut self.starts, first, end, starts);
+        put_between(&mut self.offsets, first, end, offsets);
+        self.count = count_from(&self.parts, first, first + count, &mut self.offsets);
         self.faces = first_parts(&self.starts);
         Ok(())
     }
@@ -307,11 +308,9 @@ impl FacedTable {
         requires few { length (held_in (spans_of parts.items)) ≤ 1000000 }
         ensures { IfOk result (λ table. spans_of table.parts.items ≡ spans_of parts.items) }
     {
-        let mut starts = Vec::with_capacity(alloc, parts.len())?;
-        let mut offsets = Vec::with_capacity(alloc, parts.len())?;
-        starts.push_reserved(1);
-        offsets.push_reserved(Offset { place: 0, start: 1 });
-        let count = count_from(&parts, 1, &mut starts, &mut offsets);
+        let starts = begins_of(alloc, &parts)?;
+        let mut offsets = uncounted(alloc, parts.len())?;
+        let count = count_from(&parts, 0, parts.len(), &mut offsets);
         let faces = first_parts(&starts);
         Ok(FacedTable {
             parts,

@@ -1,5 +1,5 @@
 //! What a change makes of the parts of a table.
-ghost use Rattle.std.specs.Prelude.{◌≡◌, ◌≤◌, ◌<◌, ◌+◌, ◌^◌, ◌++◌, OnErr, OnOk, drop, length, take};
+ghost use Rattle.std.specs.Prelude.{◌≡◌, ◌≤◌, ◌<◌, ◌+◌, ◌^◌, ◌++◌, OnOk, drop, length, take, vec_capacity};
 ghost use Rattle.s2ix_table.specs.FaceSpans.{spans_of};
 ghost use Rattle.s2ix_table.specs.Parts.{with_parts};
 
@@ -61,24 +61,51 @@ impl NewParts {
     }
 }
 
-// Puts elements into the place of those with numbers from `first` on and before `end`. If a growth is refused all stay.
-pub(crate) fn put_between<T: Drop>(
-    list: &mut Vec<T>,
-    first: usize,
-    end: usize,
-    new: Vec<T>,
-) -> Result<(), AllocError>
-    requires order { first ≤ end }
-    requires within { end ≤ length list.old.items }
-    ensures put { OnOk result (list.new.items ≡ take first list.old.items ++ (new.items ++ drop end list.old.items)) }
-    ensures stay { OnErr result (list.new.items ≡ list.old.items) }
+// Turns the elements from a place on: the first so many of them come behind the others.
+fn turn_from<T>(list: &mut Vec<T>, first: usize, count: usize)
+    requires { first + count ≤ length list.old.items }
+    ensures items { list.new.items ≡ take first list.old.items ++ (drop count (drop first list.old.items) ++ take count (drop first list.old.items)) }
+    ensures capacity { vec_capacity list.new ≡ vec_capacity list.old }
 {
-    list.reserve(new.len())?;
-    let mut tail = list.split_off(end)?;
-    list.truncate(first);
-    let mut new = new;
-    if list.append(&mut new).is_err() || list.append(&mut tail).is_err() {
+    list[first..].rotate_left(count);
+}
+
+// Puts elements into the place of as many others.
+fn put_over<T>(list: &mut Vec<T>, first: usize, end: usize, new: &mut [T])
+    requires within { end ≤ length list.old.items }
+    requires same { first + length new.old ≡ end }
+    ensures { list.new.items ≡ take first list.old.items ++ (new.old ++ drop end list.old.items) }
+{
+    list[first..end].swap_with_slice(new);
+}
+
+// Puts elements behind others, which have room for them.
+fn append_within<T>(list: &mut Vec<T>, new: &mut Vec<T>)
+    requires { length list.old.items + length new.old.items ≤ vec_capacity list.old }
+    ensures { list.new.items ≡ list.old.items ++ new.old.items }
+{
+    if list.append(new).is_err() {
         unreachable!()
     }
-    Ok(())
+}
+
+// Puts elements into the place of those with numbers from `first` on and before `end`. The list has room for them. O(q) for the q elements
+// from `first` on, and for as many new ones as old ones O(1) for each.
+pub(crate) fn put_between<T: Drop>(list: &mut Vec<T>, first: usize, end: usize, new: Vec<T>)
+    requires order { first ≤ end }
+    requires within { end ≤ length list.old.items }
+    requires room { length list.old.items + length new.items ≤ vec_capacity list.old }
+    ensures { list.new.items ≡ take first list.old.items ++ (new.items ++ drop end list.old.items) }
+{
+    let mut new = new;
+    let old_count = end - first;
+    let new_count = new.len();
+    if new_count == old_count {
+        put_over(list, first, end, &mut new);
+    } else {
+        append_within(list, &mut new);
+        turn_from(list, first, old_count);
+        list.truncate(list.len() - old_count);
+        turn_from(list, first, list.len() - first - new_count);
+    }
 }

@@ -1,8 +1,8 @@
 //! Where the ranges of each part are among the joined ones.
-ghost use Rattle.std.specs.Prelude.{◌≡◌, ◌+◌, ◌<◌, ◌≤◌, length, slice_index_or};
+ghost use Rattle.std.specs.Prelude.{◌≡◌, ◌+◌, ◌<◌, ◌≤◌, ◌++◌, drop, length, map, slice_index_or, take};
 ghost use Rattle.s2ix_table_spans.specs.SpanTable.{IsSpanTable};
 ghost use Rattle.s2ix_table_spans.specs.Starts.{IsLastStart};
-ghost use Rattle.s2ix_table.specs.Offsets.{offset_after, places_of};
+ghost use Rattle.s2ix_table.specs.Offsets.{AreMovable, moved, offset_after, offset_at, places_of};
 
 use s2ix_table_spans::SpanTable;
 use s2ix_table_spans::laws::ranges_are_those_of_the_span;
@@ -16,6 +16,9 @@ pub(crate) struct Offset {
 }
 
 impl Offset {
+    // That of the first part of all.
+    pub(crate) const FIRST: Offset = Offset { place: 0, start: 1 };
+
     // The offset of `next`, if this is the offset of `table`, the one before it. O(1).
     pub(crate) fn after(self, table: &SpanTable, next: &SpanTable) -> Offset
         requires few { self.place ≤ 100000000 }
@@ -66,4 +69,24 @@ pub(crate) fn offset_by(offsets: &[Offset], k: usize) -> usize
         }
     }
     first
+}
+
+// Moves the places of offsets as far as from one place to another.
+fn move_places(offsets: &mut [Offset], from: usize, to: usize)
+    requires { AreMovable from to offsets.old }
+    ensures { offsets.new ≡ map (moved from to) offsets.old }
+{
+    for offset in offsets.iter_mut() {
+        offset.place = offset.place - from + to;
+    }
+}
+
+// Moves the places of the offsets from one on, so that this one gets the given place. O(q) for q of them.
+pub(crate) fn move_from(offsets: &mut [Offset], first: usize, place: usize)
+    requires within { first < length offsets.old }
+    requires movable { AreMovable (offset_at offsets.old first).place place (drop first offsets.old) }
+    ensures { offsets.new ≡ take first offsets.old ++ map (moved (offset_at offsets.old first).place place) (drop first offsets.old) }
+{
+    let from = offsets[first].place;
+    move_places(&mut offsets[first..], from, place);
 }

@@ -1,160 +1,166 @@
-use Rattle.std.proofs.Common.{◌≡◌, ℕ, ◌+◌, ◌-◌, ◌<◌, ◌≤◌, List, ◌++◌, length, take, drop, slice_index_or, sym, ◌∙◌, ap, arith, subst, AllPairs, Contains, max}
-use Rattle.std.proofs.lemmas.List.{length-map}
-use Rattle.s2ix_bag_pairs.specs.Collection.{Collection}
+-- The new parts are put into their places in each list, and what begins anew is counted.
+use Rattle.std.proofs.Common.{◌≡◌, ℕ, ◌+◌, ◌<◌, ◌≤◌, List, length, take, slice_index_or, sym, ◌∙◌, ap, arith, subst, AllPairs, Contains}
+use Rattle.std.proofs.lemmas.List.{take_at}
 use Rattle.s2ix_table_walk.specs.Table.{leaf_end}
 use Rattle.s2ix_table_spans.specs.SpanTable.{SpanRanges}
-use Rattle.s2ix_table.specs.declared.offset.Offset.{Offset}
-use Rattle.s2ix_table.specs.FaceSpans.{BeginFaces, face_begin, spans_of, starts_of, AreFirstParts}
+use Rattle.s2ix_table.specs.FaceSpans.{face_begin, spans_of, starts_of, AreFirstParts}
 use Rattle.s2ix_table.specs.Joined.{held_in, joined_ranges, AreNeighbours}
-use Rattle.s2ix_table.specs.Offsets.{offsets_of}
+use Rattle.s2ix_table.specs.Offsets.{offsets_of, AreOffsetsFrom}
 use Rattle.s2ix_table.proofs.Bordering.{parts_begin}
 use Rattle.s2ix_table.proofs.Cuts.{starts_rise}
-use Rattle.s2ix_table.proofs.FirstParts.{length_starts}
 use Rattle.s2ix_table.proofs.Neighbours.{all_rise, joined_table}
 use Rattle.s2ix_table.proofs.Offsets.{length_offsets}
 use Rattle.s2ix_table.proofs.Once.{parts_once}
-use Rattle.s2ix_table.proofs.OneFace.{some_parts, length_with, offsets_kept, spans_with, starts_kept}
-use Rattle.s2ix_table.proofs.Reading.{first_offset}
+use Rattle.s2ix_table.proofs.Put.{put_offsets, put_spans, put_starts}
+use Rattle.s2ix_table.proofs.Reading.{first_offset, many_offsets}
 use Rattle.s2ix_table.proofs.Shared.{many_shared}
 use Rattle.s2ix_table.proofs.Together.{are_joined, first_start}
 use Rattle.s2ix_table.proofs.faced_table.FacedTable.put.Goals as goal
 
 pub returns-clause-put : goal.returns-clause-put
 returns-clause-put c =
-    let old = c.args.self.now.parts.items in
+    let t = c.args.self.now in
     let new = c.args.new in
-    ap spans_of c.in_ok-put_between.ensures.put ∙ spans_with old new.parts.items new.first new.end
+    let is = put_spans t.parts.items c.reserve.new.self.items c.put_between.new.list.items new.parts.items new.first new.end
+    c.in_ok-reserve.ensures.items c.put_between.ensures in
+    is
+
+pub put_between-requires-3-clause-within : goal.put_between-requires-3-clause-within
+put_between-requires-3-clause-within c =
+    let t = c.args.self.now in
+    let many = many_offsets t.joined in
+    let shared = many_shared t.parts.items in
+    let same = ap length c.in_ok-reserve-3.ensures.items in
+    let within = c.requires.within in
+    omega arith
 
 pub count_from-self-requires-clause-neighbours : goal.count_from-self-requires-clause-neighbours
 count_from-self-requires-clause-neighbours c =
-    let old = c.args.self.now.parts.items in
+    let t = c.args.self.now in
     let new = c.args.new in
-    let is = ap spans_of (c.deref.ensures.value ∙ c.in_ok-put_between.ensures.put) ∙ spans_with old new.parts.items new.first new.end in
-    subst (λ (ts : List SpanRanges). AreNeighbours 1 ts leaf_end) (sym is) c.requires.neighbours
+    let is = put_spans t.parts.items c.reserve.new.self.items c.put_between.new.list.items new.parts.items new.first new.end
+    c.in_ok-reserve.ensures.items c.put_between.ensures in
+    let seen = ap spans_of c.deref-2.ensures.value ∙ is in
+    subst (λ (ts : List SpanRanges). AreNeighbours 1 ts leaf_end) (sym seen) c.requires.neighbours
 
 pub count_from-self-requires-clause-few : goal.count_from-self-requires-clause-few
 count_from-self-requires-clause-few c =
-    let old = c.args.self.now.parts.items in
-    let new = c.args.new in
-    let is = ap spans_of (c.deref.ensures.value ∙ c.in_ok-put_between.ensures.put) ∙ spans_with old new.parts.items new.first new.end in
-    subst (λ (ts : List SpanRanges). length (held_in ts) ≤ 1000000) (sym is) c.requires.few
-
-pub count_from-self-requires-clause-within : goal.count_from-self-requires-clause-within
-count_from-self-requires-clause-within c =
-    let old = c.args.self.now.parts.items in
-    let new = c.args.new in
-    let order = c.requires.order in
-    let within = c.requires.within in
-    let count = ap length (c.deref.ensures.value ∙ c.in_ok-put_between.ensures.put) in
-    let sum = length_with new.first new.end old new.parts.items order within in
-    let is = ap spans_of (c.deref.ensures.value ∙ c.in_ok-put_between.ensures.put) ∙ spans_with old new.parts.items new.first new.end in
-    let some = some_parts (spans_of c.deref.result.now) (subst (λ (ts : List SpanRanges). AreNeighbours 1 ts leaf_end) (sym is) c.requires.neighbours) in
-    let many = many_shared c.deref.result.now in
-    omega arith
-
-pub count_from-self-requires-clause-starts : goal.count_from-self-requires-clause-starts
-count_from-self-requires-clause-starts c =
     let t = c.args.self.now in
     let new = c.args.new in
-    let spans = spans_of t.parts.items in
-    let others = spans_of new.parts.items ++ drop new.end spans in
-    let order = c.requires.order in
-    let within = c.requires.within in
-    let many = many_shared t.parts.items in
-    let is = ap spans_of (c.deref.ensures.value ∙ c.in_ok-put_between.ensures.put) ∙ spans_with t.parts.items new.parts.items new.first new.end in
-    subst (λ k. take k c.reserve.new.self.items ≡ take k (starts_of (spans_of c.deref.result.now))) (sym c.max.ensures)
-    (ap (λ (ns : List ℕ). take (max new.first 1) ns) (c.in_ok-reserve.ensures.items ∙ t.joined.starts_are)
-    ∙ starts_kept new.first spans others (omega arith) t.joined.neighbours c.requires.neighbours
-    ∙ ap (λ (ts : List SpanRanges). take (max new.first 1) (starts_of ts)) (sym is))
+    let is = put_spans t.parts.items c.reserve.new.self.items c.put_between.new.list.items new.parts.items new.first new.end
+    c.in_ok-reserve.ensures.items c.put_between.ensures in
+    let seen = ap spans_of c.deref-2.ensures.value ∙ is in
+    subst (λ (ts : List SpanRanges). length (held_in ts) ≤ 1000000) (sym seen) c.requires.few
 
-pub count_from-self-requires-clause-offsets : goal.count_from-self-requires-clause-offsets
-count_from-self-requires-clause-offsets c =
+pub count_from-self-requires-clause-many : goal.count_from-self-requires-clause-many
+count_from-self-requires-clause-many c =
     let t = c.args.self.now in
     let new = c.args.new in
-    let spans = spans_of t.parts.items in
-    let others = spans_of new.parts.items ++ drop new.end spans in
-    let order = c.requires.order in
-    let within = c.requires.within in
+    let is = put_spans t.parts.items c.reserve.new.self.items c.put_between.new.list.items new.parts.items new.first new.end
+    c.in_ok-reserve.ensures.items c.put_between.ensures in
+    let seen = ap spans_of c.deref-2.ensures.value ∙ is in
     let many = many_shared t.parts.items in
-    let is = ap spans_of (c.deref.ensures.value ∙ c.in_ok-put_between.ensures.put) ∙ spans_with t.parts.items new.parts.items new.first new.end in
-    subst (λ k. take k c.reserve-2.new.self.items ≡ take k (offsets_of (spans_of c.deref.result.now))) (sym c.max.ensures)
-    (ap (λ (os : List Offset). take (max new.first 1) os) (c.in_ok-reserve-2.ensures.items ∙ t.joined.offsets_are)
-    ∙ offsets_kept new.first spans others (omega arith) t.joined.neighbours c.requires.neighbours
-    ∙ ap (λ (ts : List SpanRanges). take (max new.first 1) (offsets_of ts)) (sym is))
+    let within = c.requires.within in
+    let len = new.parts.ok.0 in
+    let count = c.len-count.ensures in
+    let put = put_offsets (spans_of t.parts.items) (spans_of new.parts.items) c.reserve-3.new.self.items c.put_between-3.new.list.items
+    c.in_ok-offsets.offsets.items new.first new.end c.len-count.result c.requires.order (omega arith)
+    (many_shared new.parts.items ∙ (let same : length new.parts.items ≡ c.len-count.result = omega arith in same)) c.in_ok-offsets.ensures
+    (c.in_ok-reserve-3.ensures.items ∙ t.joined.offsets_are) c.put_between-3.ensures in
+    ap length c.deref_mut.ensures.value ∙ put.many ∙ ap length (sym seen) ∙ many_shared c.deref-2.result.now
 
-pub count_from-self-requires-clause-room : goal.count_from-self-requires-clause-room
-count_from-self-requires-clause-room c =
+pub count_from-self-requires-clause-before : goal.count_from-self-requires-clause-before
+count_from-self-requires-clause-before c =
     let t = c.args.self.now in
     let new = c.args.new in
-    let order = c.requires.order in
-    let within = c.requires.within in
-    let count = ap length (c.deref.ensures.value ∙ c.in_ok-put_between.ensures.put) in
-    let sum = length_with new.first new.end t.parts.items new.parts.items order within in
+    let is = put_spans t.parts.items c.reserve.new.self.items c.put_between.new.list.items new.parts.items new.first new.end
+    c.in_ok-reserve.ensures.items c.put_between.ensures in
+    let seen = ap spans_of c.deref-2.ensures.value ∙ is in
     let many = many_shared t.parts.items in
-    let all = length_starts t.joined in
-    let own = t.starts.ok.0 in
-    let len = c.in_ok-reserve.ensures.len in
-    let room = c.in_ok-reserve.ensures.ok in
-    let more = c.len.ensures in
-    let new_own = new.parts.ok.0 in
-    omega (arith, count, sum, many, all, own, len, room, more, new_own)
+    let within = c.requires.within in
+    let len = new.parts.ok.0 in
+    let count = c.len-count.ensures in
+    let put = put_offsets (spans_of t.parts.items) (spans_of new.parts.items) c.reserve-3.new.self.items c.put_between-3.new.list.items
+    c.in_ok-offsets.offsets.items new.first new.end c.len-count.result c.requires.order (omega arith)
+    (many_shared new.parts.items ∙ (let same : length new.parts.items ≡ c.len-count.result = omega arith in same)) c.in_ok-offsets.ensures
+    (c.in_ok-reserve-3.ensures.items ∙ t.joined.offsets_are) c.put_between-3.ensures in
+    ap (take new.first) c.deref_mut.ensures.value ∙ put.before ∙ ap (λ ts. take new.first (offsets_of ts)) (sym seen)
 
-pub count_from-self-requires-clause-offsets_room : goal.count_from-self-requires-clause-offsets_room
-count_from-self-requires-clause-offsets_room c =
+pub count_from-self-requires-clause-behind : goal.count_from-self-requires-clause-behind
+count_from-self-requires-clause-behind c =
     let t = c.args.self.now in
     let new = c.args.new in
-    let order = c.requires.order in
-    let within = c.requires.within in
-    let count = ap length (c.deref.ensures.value ∙ c.in_ok-put_between.ensures.put) in
-    let sum = length_with new.first new.end t.parts.items new.parts.items order within in
+    let is = put_spans t.parts.items c.reserve.new.self.items c.put_between.new.list.items new.parts.items new.first new.end
+    c.in_ok-reserve.ensures.items c.put_between.ensures in
+    let seen = ap spans_of c.deref-2.ensures.value ∙ is in
     let many = many_shared t.parts.items in
-    let all = ap length t.joined.offsets_are ∙ length_offsets first_offset (spans_of t.parts.items) in
-    let own = t.offsets.ok.0 in
-    let len = c.in_ok-reserve-2.ensures.len in
-    let room = c.in_ok-reserve-2.ensures.ok in
-    let more = c.len-2.ensures in
-    let new_own = new.parts.ok.0 in
-    omega (arith, count, sum, many, all, own, len, room, more, new_own)
+    let within = c.requires.within in
+    let len = new.parts.ok.0 in
+    let count = c.len-count.ensures in
+    let put = put_offsets (spans_of t.parts.items) (spans_of new.parts.items) c.reserve-3.new.self.items c.put_between-3.new.list.items
+    c.in_ok-offsets.offsets.items new.first new.end c.len-count.result c.requires.order (omega arith)
+    (many_shared new.parts.items ∙ (let same : length new.parts.items ≡ c.len-count.result = omega arith in same)) c.in_ok-offsets.ensures
+    (c.in_ok-reserve-3.ensures.items ∙ t.joined.offsets_are) c.put_between-3.ensures in
+    let end : ℕ = new.first + c.len-count.result in
+    subst (λ os. AreOffsetsFrom end os (spans_of c.deref-2.result.now)) (sym c.deref_mut.ensures.value)
+    (subst (AreOffsetsFrom end c.put_between-3.new.list.items) (sym seen) put.behind)
 
 pub first_parts-self-requires-clause-rises : goal.first_parts-self-requires-clause-rises
 first_parts-self-requires-clause-rises c =
-    let old = c.args.self.now.parts.items in
+    let t = c.args.self.now in
     let new = c.args.new in
-    let is = ap spans_of (c.deref.ensures.value ∙ c.in_ok-put_between.ensures.put) ∙ spans_with old new.parts.items new.first new.end in
-    let are = subst (λ (ts : List SpanRanges). AreNeighbours 1 ts leaf_end) (sym is) c.requires.neighbours in
-    subst (λ (ns : List ℕ). AllPairs (λ a b. a < b) ns) (sym (c.deref-2.ensures.value ∙ c.count_from-self.ensures.starts))
-    (starts_rise 1 (spans_of c.deref.result.now) leaf_end are)
+    let starts = put_starts (spans_of t.parts.items) (spans_of new.parts.items) c.reserve-2.new.self.items c.put_between-2.new.list.items
+    c.in_ok-starts.starts.items new.first new.end (c.in_ok-reserve-2.ensures.items ∙ t.joined.starts_are)
+    (c.in_ok-starts.ensures ∙ ap (λ ts. starts_of (spans_of ts)) c.deref.ensures.value) c.put_between-2.ensures in
+    subst (λ (ns : List ℕ). AllPairs (λ a b. a < b) ns) (sym (c.deref-3.ensures.value ∙ starts)) (starts_rise 1 _ leaf_end c.requires.neighbours)
 
 pub first_parts-self-requires-clause-begins : goal.first_parts-self-requires-clause-begins
 first_parts-self-requires-clause-begins c =
-    let old = c.args.self.now.parts.items in
+    let t = c.args.self.now in
     let new = c.args.new in
-    let is = ap spans_of (c.deref.ensures.value ∙ c.in_ok-put_between.ensures.put) ∙ spans_with old new.parts.items new.first new.end in
-    let begin = subst BeginFaces (sym is) c.requires.faces in
-    λ face lt. subst (λ (ns : List ℕ). Contains ns (face_begin face)) (sym (c.deref-2.ensures.value ∙ c.count_from-self.ensures.starts)) (begin face lt)
+    let starts = put_starts (spans_of t.parts.items) (spans_of new.parts.items) c.reserve-2.new.self.items c.put_between-2.new.list.items
+    c.in_ok-starts.starts.items new.first new.end (c.in_ok-reserve-2.ensures.items ∙ t.joined.starts_are)
+    (c.in_ok-starts.ensures ∙ ap (λ ts. starts_of (spans_of ts)) c.deref.ensures.value) c.put_between-2.ensures in
+    λ face lt. subst (λ (ns : List ℕ). Contains ns (face_begin face)) (sym (c.deref-3.ensures.value ∙ starts)) (c.requires.faces face lt)
 
 pub first_parts-self-requires-clause-first : goal.first_parts-self-requires-clause-first
 first_parts-self-requires-clause-first c =
-    let old = c.args.self.now.parts.items in
+    let t = c.args.self.now in
     let new = c.args.new in
-    let is = ap spans_of (c.deref.ensures.value ∙ c.in_ok-put_between.ensures.put) ∙ spans_with old new.parts.items new.first new.end in
-    let are = subst (λ (ts : List SpanRanges). AreNeighbours 1 ts leaf_end) (sym is) c.requires.neighbours in
-    ap (λ (ns : List ℕ). slice_index_or ns 0 0) (c.deref-2.ensures.value ∙ c.count_from-self.ensures.starts)
-    ∙ first_start (spans_of c.deref.result.now) are
+    let starts = put_starts (spans_of t.parts.items) (spans_of new.parts.items) c.reserve-2.new.self.items c.put_between-2.new.list.items
+    c.in_ok-starts.starts.items new.first new.end (c.in_ok-reserve-2.ensures.items ∙ t.joined.starts_are)
+    (c.in_ok-starts.ensures ∙ ap (λ ts. starts_of (spans_of ts)) c.deref.ensures.value) c.put_between-2.ensures in
+    ap (λ (ns : List ℕ). slice_index_or ns 0 0) (c.deref-3.ensures.value ∙ starts) ∙ first_start _ c.requires.neighbours
 
 pub invariant_of-self-2 : goal.invariant_of-self-2
 invariant_of-self-2 c =
-    let old = c.args.self.now.parts.items in
+    let t = c.args.self.now in
     let new = c.args.new in
-    let put = c.in_ok-put_between.ensures.put in
+    let is = put_spans t.parts.items c.reserve.new.self.items c.put_between.new.list.items new.parts.items new.first new.end
+    c.in_ok-reserve.ensures.items c.put_between.ensures in
+    let seen = ap spans_of c.deref-2.ensures.value ∙ is in
+    let starts = put_starts (spans_of t.parts.items) (spans_of new.parts.items) c.reserve-2.new.self.items c.put_between-2.new.list.items
+    c.in_ok-starts.starts.items new.first new.end (c.in_ok-reserve-2.ensures.items ∙ t.joined.starts_are)
+    (c.in_ok-starts.ensures ∙ ap (λ ts. starts_of (spans_of ts)) c.deref.ensures.value) c.put_between-2.ensures in
+    let many = many_shared t.parts.items in
+    let within = c.requires.within in
+    let len = new.parts.ok.0 in
+    let count = c.len-count.ensures in
+    let put = put_offsets (spans_of t.parts.items) (spans_of new.parts.items) c.reserve-3.new.self.items c.put_between-3.new.list.items
+    c.in_ok-offsets.offsets.items new.first new.end c.len-count.result c.requires.order (omega arith)
+    (many_shared new.parts.items ∙ (let same : length new.parts.items ≡ c.len-count.result = omega arith in same)) c.in_ok-offsets.ensures
+    (c.in_ok-reserve-3.ensures.items ∙ t.joined.offsets_are) c.put_between-3.ensures in
     let spans = spans_of c.put_between.new.list.items in
-    let is = ap spans_of put ∙ spans_with old new.parts.items new.first new.end in
-    let seen = ap spans_of c.deref.ensures.value in
     let are = subst (λ (ts : List SpanRanges). AreNeighbours 1 ts leaf_end) (sym is) c.requires.neighbours in
     let few = subst (λ (ts : List SpanRanges). length (held_in ts) ≤ 1000000) (sym is) c.requires.few in
-    let whole = are_joined spans _ _ _ _ are few (c.count_from-self.ensures.starts ∙ ap starts_of seen) (c.count_from-self.ensures.offsets ∙ ap offsets_of seen)
-    (subst (λ (ns : List ℕ). AreFirstParts ns c.first_parts-self.result) c.deref-2.ensures.value c.first_parts-self.ensures)
-    (c.count_from-self.ensures.count ∙ ap (λ ts. length (joined_ranges ts)) seen) in
+    let here = ap spans_of c.deref-2.ensures.value in
+    let own = c.put_between-3.new.list.ok.0 in
+    let length_is = ap length c.count_from-self.ensures.offsets ∙ length_offsets first_offset (spans_of c.deref-2.result.now) ∙ ap length seen
+    ∙ sym put.many in
+    let written = take_at c.count_from-self.new.offsets _ c.put_between-3.new.list.len (omega arith) in
+    let whole = are_joined spans _ _ _ _ are few (starts ∙ ap starts_of (sym is)) (written ∙ c.count_from-self.ensures.offsets ∙ ap offsets_of here)
+    (subst (λ (ns : List ℕ). AreFirstParts ns c.first_parts-self.result) c.deref-3.ensures.value c.first_parts-self.ensures)
+    (c.count_from-self.ensures.count ∙ ap (λ ts. length (joined_ranges ts)) here) in
     record {
       joined = whole;
       rises = all_rise 1 spans leaf_end are;

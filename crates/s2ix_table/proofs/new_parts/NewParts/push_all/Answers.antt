@@ -1,4 +1,4 @@
-use Rattle.std.proofs.Common.{◌≡◌, List, ◌++◌, take, drop, ◌∙◌, sym, ap, ap₂, append_assoc}
+use Rattle.std.proofs.Common.{List, ◌++◌, take, drop, ◌∙◌, ap, ap₂, append_assoc}
 use Rattle.std.proofs.lemmas.List.{map-append}
 use Rattle.std.specs.Arc.{arc_value}
 use Rattle.s2ix_table_spans.specs.SpanTable.{SpanRanges}

@@ -1,9 +1,8 @@
-use Rattle.std.proofs.Common.{◌≡◌, [], length, sym, ap, ◌∙◌, arith}
+use Rattle.std.proofs.Common.{◌≡◌, length, sym, ◌∙◌, arith}
 use Rattle.std.proofs.lemmas.Bool.Decides.{nat_tests}
 use Rattle.std.proofs.lemmas.List.{length-map}
 use Rattle.std.specs.Arc.{arc_value}
 use Rattle.s2ix_table.specs.FaceSpans.{spans_of}
-use Rattle.s2ix_table.specs.Joined.{held_in}
 use Rattle.s2ix_table.proofs.Cutting.{none_left, none_held}
 use Rattle.s2ix_table.proofs.parts_changed.Span.is_done.Goals as goal
 

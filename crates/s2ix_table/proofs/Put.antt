@@ -1,0 +1,54 @@
+-- Parts that give way to others, with their offsets and where they begin.
+use Rattle.std.proofs.Common.{◌≡◌, ℕ, ◌+◌, ◌≤◌, List, ◌++◌, length, take, drop, get_or, sym, ◌∙◌, ap, ap₂, arith}
+use Rattle.std.proofs.lemmas.List.{get_or-drop}
+use Rattle.std.specs.declared.sync.Arc.{Arc}
+use Rattle.s2ix_table_spans.specs.SpanTable.{SpanRanges}
+use Rattle.s2ix_table.specs.declared.offset.Offset.{Offset}
+use Rattle.s2ix_table.specs.FaceSpans.{spans_of, starts_of}
+use Rattle.s2ix_table.specs.Offsets.{offset_at, offsets_from, offsets_of, AreOffsetsFrom}
+use Rattle.s2ix_table.specs.Parts.{with_parts}
+use Rattle.s2ix_table.proofs.Moving.{own_behind}
+use Rattle.s2ix_table.proofs.Offsets.{length_offsets}
+use Rattle.s2ix_table.proofs.OneFace.{length_with, offsets_front, spans_with}
+use Rattle.s2ix_table.proofs.Reading.{first_offset, no_offset}
+use Rattle.s2ix_table.proofs.Replaced.{before_new, behind_new, mapped, replaced_in}
+
+pub put_spans : {Z : Type 0} (old same now made : List (Arc SpanRanges Z)) (f e : ℕ) → same ≡ old → now ≡ take f same ++ (made ++ drop e same)
+    → spans_of now ≡ with_parts (spans_of old) f e (spans_of made)
+put_spans old same now made f e is put = ap (λ ts. spans_of ts) (replaced_in old same now made f e is put) ∙ spans_with old made f e
+
+pub put_starts : (spans made : List SpanRanges) (same now begins : List ℕ) (f e : ℕ) → same ≡ starts_of spans → begins ≡ starts_of made
+    → now ≡ take f same ++ (begins ++ drop e same) → now ≡ starts_of (with_parts spans f e made)
+put_starts spans made same now begins f e is are put =
+    replaced_in (starts_of spans) same now begins f e is put
+    ∙ ap (λ ns. take f (starts_of spans) ++ (ns ++ drop e (starts_of spans))) are
+    ∙ sym (mapped (λ (t : SpanRanges). t.from) spans made f e)
+
+-- the offsets before the new parts are right, and those behind them are as far from one another as they should be
+pub record ArePut (parts : List SpanRanges) (offsets : List Offset) (first end : ℕ) : Type 0 where
+  pub many : length offsets ≡ length parts
+  pub before : take first offsets ≡ take first (offsets_of parts)
+  pub behind : AreOffsetsFrom end offsets parts
+
+pub put_offsets : (spans made : List SpanRanges) (same now new : List Offset) (f e k : ℕ) → f ≤ e → e ≤ length spans → length made ≡ k
+    → length new ≡ k → same ≡ offsets_of spans → now ≡ take f same ++ (new ++ drop e same) → ArePut (with_parts spans f e made) now f (f + k)
+put_offsets spans made same now new f e k order within many many_new is put =
+    let old = offsets_of spans in
+    let here = replaced_in old same now new f e is put in
+    let old_many = length_offsets first_offset spans in
+    let all = length_with f e spans made order within in
+    let all_offsets = length_with f e old new order (omega arith) in
+    let count = ap length here in
+    let rest = ap (drop (f + k)) here ∙ behind_new old new f e k (omega arith) many_new in
+    let first : offset_at now (f + k) ≡ offset_at old e =
+    (let one : f + k + 0 ≡ f + k = omega arith in
+    let other : e + 0 ≡ e = omega arith in
+    ap (offset_at now) (sym one) ∙ sym (get_or-drop (f + k) now 0 no_offset) ∙ ap (λ os. get_or os 0 no_offset) rest
+    ∙ get_or-drop e old 0 no_offset ∙ ap (offset_at old) other) in
+    record {
+      many = omega (arith, count, all, all_offsets, old_many, many, many_new, order, within);
+      before = ap (take f) here ∙ before_new old new f e (omega arith) ∙ sym (offsets_front f first_offset spans (made ++ drop e spans) (omega arith));
+      behind =
+          rest ∙ own_behind e spans
+          ∙ ap₂ (λ o ts. offsets_from o ts) (sym first) (sym (behind_new spans made f e k (omega arith) many));
+    }
