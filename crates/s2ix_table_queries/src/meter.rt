@@ -5,7 +5,7 @@ ghost use Rattle.s2ix_table_walk.specs.Stretches.{IsSample, IsStretch};
 use crate::stretch::Stretch;
 use crate::table::RangeTable;
 use s2ix_bag_pairs::Held;
-use s2ix_table_walk::{Cost, RangeRow, Reader, SAMPLE_STEP, Window};
+use s2ix_table_walk::{Cost, LeafWindow, RangeRow, Reader, SAMPLE_STEP};
 
 /// A reader of a table that counts what is read of it. It keeps two things at hand: the stretch of the part that it last went to, in
 /// which a search reads where ranges begin, and the note that makes the next read of a range nearby quicker.
@@ -52,9 +52,9 @@ impl<T: RangeTable> Reader for Meter<'_, T> {
         self.table.range_count()
     }
 
-    fn window(&mut self, face: u8) -> (Window, Window) {
+    fn window(&mut self, leaf: u64) -> LeafWindow {
         self.cost.add_probe();
-        (self.table.window(face), self.table.face_borders(face))
+        self.table.window(leaf)
     }
 
     fn first(&self, k: usize) -> Option<T::Place> {

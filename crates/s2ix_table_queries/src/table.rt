@@ -3,9 +3,9 @@ ghost use Rattle.s2id_core.specs.CellId.{raw_of, level_of};
 ghost use Rattle.s2ix_bag_pairs.specs.Collection.{Collection, IsCollection};
 ghost use Rattle.s2ix_table_walk.specs.Contents.{contents_at};
 ghost use Rattle.s2ix_table_walk.specs.LabelList.{label_list};
-ghost use Rattle.s2ix_table_walk.specs.Table.{Range, range_at, IsRangeTable};
+ghost use Rattle.s2ix_table_walk.specs.Table.{Range, range_at, leaf_end, IsRangeTable};
 ghost use Rattle.s2ix_table_walk.specs.Places.{IsPlace, LeadsTo};
-ghost use Rattle.s2ix_table_walk.specs.FaceWindows.{HaveFace};
+ghost use Rattle.s2ix_table_walk.specs.LeafWindows.{HaveLeaves};
 ghost use Rattle.s2ix_table_walk.specs.Shown.{AreBorders};
 ghost use Rattle.s2ix_table_walk.specs.Stretches.{IsSample, IsStretch};
 ghost use Rattle.s2ix_table_walk.specs.Meeting.{IsMeetingList, IsLabelList, meeting_of};
@@ -16,11 +16,11 @@ use crate::labels::gather;
 use crate::meter::Meter;
 use crate::stretch::Stretch;
 use crate::visit::Visit;
-use s2id_core::{CellId, OutOfMemory};
+use s2id_core::{CellId, LEAF_END, OutOfMemory};
 use s2id_union::CellUnion;
 use s2ix_bag_changes::Bag;
 use s2ix_bag_pairs::{Held, Label};
-use s2ix_table_walk::{Meeting, RangeRow, Reader, Window, walk};
+use s2ix_table_walk::{LeafWindow, Meeting, RangeRow, Reader, Window, walk};
 use std::alloc::Global;
 
 /// The range table of a collection: the maximal spans of leaves over which the same pairs lie, in order, each with a
@@ -63,24 +63,22 @@ pub trait RangeTable: Sized {
         ensures start { result.start ≡ (range_at (ranges self.now) k).start }
         ensures limit { result.limit ≡ (range_at (ranges self.now) k).limit };
 
-    /// A window with all ranges over a face, 0 to 5; by default all ranges of the table. O(1).
-    fn window(&self, face: u8) -> Window
-        requires { face < 6 }
-        ensures { HaveFace (ranges self.now) face result.first result.size }
+    /// Some ranges that have a leaf, given by its number, among them, the borders inside of these, and how far they serve; by default all
+    /// ranges of the table, and no border. No clause says how many these are: a search for a range is quicker if they are few. O(1).
+    fn window(&self, leaf: u64) -> LeafWindow
+        requires from { 1 ≤ leaf }
+        requires within { leaf < leaf_end }
+        ensures window { HaveLeaves (ranges self.now) leaf result.until result.ranges.first result.ranges.size }
+        ensures borders { result.borders.first + result.borders.size ≤ length (borders self.now) }
     {
-        Window {
-            first: 0,
-            size: self.range_count(),
+        LeafWindow {
+            ranges: Window {
+                first: 0,
+                size: self.range_count(),
+            },
+            borders: Window { first: 0, size: 0 },
+            until: LEAF_END,
         }
-    }
-
-    /// A window of the borders, with those of the parts that begin on a face, 0 to 5; by default none. No clause says which borders these
-    /// are: a search for a range on the face is quicker if they are those. O(1).
-    fn face_borders(&self, face: u8) -> Window
-        requires { face < 6 }
-        ensures { result.first + result.size ≤ length (borders self.now) }
-    {
-        Window { first: 0, size: 0 }
     }
 
     /// A border: the place of the range at which a part begins. O(1).

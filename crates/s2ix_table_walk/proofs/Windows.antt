@@ -5,7 +5,7 @@ use Rattle.std.proofs.lemmas.Bool.{cases_lt}
 use Rattle.s2ix_bag_pairs.specs.Collection.{Collection}
 use Rattle.s2ix_table_walk.specs.Table.{Range, range_at, leaf_end, IsRangeTable}
 use Rattle.s2ix_table_walk.proofs.Tables.{limits_rise}
-use Rattle.s2ix_table_walk.specs.FaceWindows.{face_begin, HaveFace}
+use Rattle.s2ix_table_walk.specs.LeafWindows.{HaveLeaves}
 use Rattle.s2ix_table_walk.specs.Searching.{IsWindow}
 
 starts_rise : (hs : Collection) (ranges : List Range) (i j : ℕ) → IsRangeTable hs ranges → i ≤ j → j + 1 < length ranges
@@ -115,36 +115,49 @@ room_left hs ranges leaf from size over one t w less by beyond =
           (record { some = omega arith; within = omega arith; start = le; limit = λ more. let l = w.limit (omega arith) in omega arith }))
     ]
 
--- the ranges over a face, from one on that begins by a leaf of it
-pub window_ahead : (hs : Collection) (ranges : List Range) (leaf face first size from begin : ℕ) → IsRangeTable hs ranges
-    → HaveFace ranges face first size → face_begin face ≤ leaf → leaf < face_begin (face + 1) → from < length ranges
-    → (range_at ranges from).start ≤ leaf → begin ≡ max from first → IsWindow ranges leaf begin (first + size - begin)
-window_ahead hs ranges leaf face first size from begin t have low high lt start is =
+-- a range that begins by a leaf is before an end that comes after that leaf
+pub begins_before : (hs : Collection) (ranges : List Range) (leaf until end from : ℕ) → IsRangeTable hs ranges → leaf < until
+    → (end < length ranges → until ≤ (range_at ranges end).start) → end ≤ length ranges → from < length ranges
+    → (range_at ranges from).start ≤ leaf → from < end
+begins_before hs ranges leaf until end from t later limit within lt start = elim (cases_lt from end) [
+  | inl less ↦ less
+  | inr past ↦
+      (let stop = limit (omega arith) in
+      elim (cases_lt end from) [
+        | inr same ↦ (let e : end ≡ from = omega arith in let p = ap (λ k. (range_at ranges k).start) e in absurd (omega arith))
+        | inl more ↦
+            (let j : ℕ = from - 1 in
+            let e : j + 1 ≡ from = omega arith in
+            let rises = t.rises end (omega arith) in
+            let r = limits_rise hs 1 leaf_end ranges t end j (omega arith) (omega arith) in
+            let n = t.next j from e lt in
+            absurd (omega arith))
+      ])
+]
+
+-- the ranges before such an end, from that range on
+pub window_from : (hs : Collection) (ranges : List Range) (leaf until end from : ℕ) → IsRangeTable hs ranges → leaf < until
+    → (end < length ranges → until ≤ (range_at ranges end).start) → end ≤ length ranges → from < length ranges
+    → (range_at ranges from).start ≤ leaf → IsWindow ranges leaf from (end - from)
+window_from hs ranges leaf until end from t later limit within lt start =
+    window_to ranges leaf from end (begins_before hs ranges leaf until end from t later limit within lt start) within start
+    (λ more. let stop = limit more in omega arith)
+
+-- ranges that have a leaf, from one on that begins by the leaf
+pub window_ahead : (hs : Collection) (ranges : List Range) (leaf until first size from begin : ℕ) → IsRangeTable hs ranges
+    → HaveLeaves ranges leaf until first size → from < length ranges → (range_at ranges from).start ≤ leaf → begin ≡ max from first
+    → IsWindow ranges leaf begin (first + size - begin)
+window_ahead hs ranges leaf until first size from begin t have lt start is =
     let some = have.some in
     let within = have.within in
-    let begins = have.begins in
-    let last : ℕ = first + size - 1 in
-    let end : last + 1 ≡ first + size = omega arith in
-    let ends = have.ends last end in
-    let below : from < first + size = elim (cases_lt from (first + size)) [
-      | inl less ↦ less
-      | inr past ↦
-          (let j : ℕ = from - 1 in
-          let e : j + 1 ≡ from = omega arith in
-          let r = limits_rise hs 1 leaf_end ranges t last j (omega arith) (omega arith) in
-          let n = t.next j from e lt in
-          absurd (omega arith))
-    ] in
-    let limit : first + size < length ranges → leaf < (range_at ranges (first + size)).start =
-    λ more. let n = t.next last (first + size) end more in
-    omega arith in
+    let begins = have.start in
     elim (cases_lt from first) [
       | inl less ↦
           (let e : begin ≡ first = is ∙ max-eq_right (omega arith) in
-          window_to ranges leaf begin (first + size) (omega arith) within (let p = ap (λ k. (range_at ranges k).start) e in omega arith)
-          limit)
+          window_from hs ranges leaf until (first + size) begin t have.later have.limit within (omega arith)
+          (let p = ap (λ k. (range_at ranges k).start) e in omega arith))
       | inr le ↦
           (let e : begin ≡ from = is ∙ max-eq_left le in
-          window_to ranges leaf begin (first + size) (omega arith) within (let p = ap (λ k. (range_at ranges k).start) e in omega arith)
-          limit)
+          window_from hs ranges leaf until (first + size) begin t have.later have.limit within (omega arith)
+          (let p = ap (λ k. (range_at ranges k).start) e in omega arith))
     ]

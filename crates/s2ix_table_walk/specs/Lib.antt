@@ -16,4 +16,5 @@ pub mod Walking
 pub mod Meetings
 pub mod WalkLaws
 pub mod FaceWindows
+pub mod LeafWindows
 pub mod Stretches

@@ -8,11 +8,10 @@ use Rattle.s2id_union.specs.Covers.{Covers}
 use Rattle.s2id_union.specs.NormalForm.{is_covered}
 use Rattle.s2ix_bag_pairs.specs.Collection.{Collection}
 use Rattle.s2ix_table_walk.specs.Meeting.{meeting_from, meeting_of}
-use Rattle.s2ix_table_walk.specs.FaceWindows.{HaveFace}
 use Rattle.s2ix_table_walk.specs.Places.{IsPlace, from_place}
 use Rattle.s2ix_table_walk.specs.Table.{Range, range_at, IsFound, leaf_end}
 use Rattle.s2ix_table_walk.specs.declared.cost.Cost.{Cost}
-use Rattle.s2ix_table_walk.specs.declared.walk_state.KnownFace.{KnownFace}
+use Rattle.s2ix_table_walk.specs.declared.walk_state.KnownWindow.{KnownWindow}
 use Rattle.s2ix_table_walk.specs.declared.walk_state.WalkState.{WalkState}
 use Rattle.s2ix_table_walk.specs.Costs.{with_look, is_met}
 use Rattle.s2id_core.specs.BinaryDigits.{binary_digits}
@@ -35,9 +34,10 @@ left_with shown target walk = front_from walk.from (from_place shown.chain walk.
 abbrev pub ArePassed : List CellId → ℕ → ℕ → Type 0
 ArePassed target k seen = (j : ℕ) (d : CellId) → j < k → j < length target → end_of (slice_index_or target j d) ≤ seen
 
--- where the ranges over a face end, if one is known, and borders of the table
-pub record IsKnown {P : Type 0} (shown : Shown P) (known : KnownFace) : Type 0 where
-  pub face : known.face < 6 → HaveFace shown.ranges known.face 0 known.end
+-- each leaf before a number is in a range before one, and borders of the table
+pub record IsKnown {P : Type 0} (shown : Shown P) (known : KnownWindow) : Type 0 where
+  pub within : known.end ≤ length shown.ranges
+  pub until : known.end < length shown.ranges → known.until ≤ (range_at shown.ranges known.end).start
   pub borders : known.borders.first + known.borders.size ≤ length shown.borders
 
 -- the range at hand has the leaf `seen`, unless `seen` is the end of the leaves; the leaf before `seen`, if there is one, is the target's;
@@ -73,7 +73,7 @@ abbrev pub ranges_begun : List CellId → List Range → ℕ → ℕ
 ranges_begun target ranges seen = count_by (λ r. is_met target r && nat_lt r.start seen) ranges
 
 -- how many looks and probes a walk may have taken after some calls: for each range begun that is met one probe, and one look that gave no
--- new pair; for each cell begun the probes of a search, and one more for the window of its face or for a range near at hand. For a chain at
+-- new pair; for each cell begun the probes of a search, and one more for its window or for a range near at hand. For a chain at
 -- hand that look is still to come. And how many it must have taken: one probe for each range begun that is met
 pub record IsPaid {P : Type 0} (shown : Shown P) (target : List CellId) (walk : WalkState P) (calls : ℕ) (cost : Cost) : Type 0 where
   pub each : calls ≤ cost.looks

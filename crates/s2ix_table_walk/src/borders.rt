@@ -9,7 +9,7 @@ ghost use Rattle.s2ix_table_walk.specs.Walking.{IsKnown};
 use crate::narrowing::{Candidates, Narrowing};
 use crate::power::power_within;
 use crate::reader::Reader;
-use crate::walk_state::KnownFace;
+use crate::walk_state::KnownWindow;
 use crate::window::Window;
 
 // Of some ranges those in one part, which is brought to hand. If all lie in the part at hand already, it reads nothing.
@@ -42,9 +42,9 @@ pub(crate) fn in_one_part<R: Reader>(
     }
 }
 
-// A search by borders before its first probe. If a part is at hand, it begins at the next border, and else in the middle.
+// A search by borders before its first probe.
 #[inline(always)]
-fn begin_narrowing<R: Reader>(reader: &R, leaf: u64, among: Window, known: KnownFace) -> Narrowing
+fn begin_narrowing<R: Reader>(reader: &R, leaf: u64, among: Window, known: KnownWindow) -> Narrowing
     requires among { IsWindow (R.shown reader.now).ranges leaf among.first among.size }
     requires borders { known.borders.first + known.borders.size ≤ length (R.shown reader.now).borders }
     ensures narrowing { IsNarrowing (R.shown reader.now) leaf result }
@@ -52,21 +52,13 @@ fn begin_narrowing<R: Reader>(reader: &R, leaf: u64, among: Window, known: Known
 {
     let low = known.borders.first;
     let high = low + known.borders.size;
-    let step = first_step(known.part_end);
     let room = power_within(reader.range_count());
     Narrowing {
         among,
         low,
         high,
-        step,
         room,
     }
-}
-
-// How many borders a search passes over at first: none if a part is at hand, which ends at this range, and else as many as there are.
-#[inline(always)]
-fn first_step(part_end: usize) -> usize {
-    if part_end == 0 { usize::MAX } else { 0 }
 }
 
 // The ranges that are left when no border lies inside of them.
@@ -101,11 +93,9 @@ fn narrowed<R: Reader>(reader: &mut R, leaf: u64, at: Narrowing) -> Narrowing
 {
     let next = next_border(at);
     let border = reader.border(next);
-    let step = at.step.saturating_mul(2).saturating_add(1);
     if border <= at.among.first {
         return Narrowing {
             low: next + 1,
-            step,
             ..at
         };
     }
@@ -123,38 +113,27 @@ fn narrowed<R: Reader>(reader: &mut R, leaf: u64, at: Narrowing) -> Narrowing
     }
     let begins = reader.border_start(next);
     let among = side(at.among, before, begins, leaf);
-    if begins <= leaf {
-        Narrowing {
-            among,
-            low: next + 1,
-            high: at.high,
-            step,
-            room,
-        }
+    let (low, high) = if begins <= leaf {
+        (next + 1, at.high)
     } else {
-        Narrowing {
-            among,
-            low: at.low,
-            high: next,
-            step: usize::MAX,
-            room,
-        }
+        (at.low, next)
+    };
+    Narrowing {
+        among,
+        low,
+        high,
+        room,
     }
 }
 
-// The border at which a search looks next: the middle one of those left, or an earlier one if a probe may leave all ranges.
+// The border at which a search looks next: the middle one of those left.
 #[inline(always)]
 fn next_border(at: Narrowing) -> usize
     requires { at.low < at.high }
     ensures from { at.low ≤ result }
     ensures before { result < at.high }
 {
-    let half = (at.high - at.low) / 2;
-    if at.among.size <= at.room {
-        at.low + half.min(at.step)
-    } else {
-        at.low + half
-    }
+    at.low + (at.high - at.low) / 2
 }
 
 // One side of some ranges that are parted at one of them: those before it, or it and those after it if it begins by the leaf.
@@ -185,9 +164,9 @@ pub(crate) fn side(among: Window, before: usize, begins: u64, leaf: u64) -> Wind
 }
 
 // What is known once a search has come to the ranges before a border: the part that ends there is brought to hand. No border may have this
-// number: then it is the last part of the face, or the table is one part.
+// number: then it is the last part of the window, or the table is one part.
 #[inline(always)]
-fn part_known<R: Reader>(reader: &mut R, next: usize, known: KnownFace) -> KnownFace
+fn part_known<R: Reader>(reader: &mut R, next: usize, known: KnownWindow) -> KnownWindow
     requires known { IsKnown (R.shown reader.old) known }
     requires next { next ≤ length (R.shown reader.old).borders }
     ensures known { IsKnown (R.shown reader.old) result }
@@ -197,7 +176,7 @@ fn part_known<R: Reader>(reader: &mut R, next: usize, known: KnownFace) -> Known
     reader.go_to(next.wrapping_sub(1));
     let end = known.borders.first + known.borders.size;
     if next >= end {
-        return KnownFace {
+        return KnownWindow {
             borders: Window {
                 first: next,
                 size: 0,
@@ -206,7 +185,7 @@ fn part_known<R: Reader>(reader: &mut R, next: usize, known: KnownFace) -> Known
             ..known
         };
     }
-    KnownFace {
+    KnownWindow {
         borders: Window {
             first: next,
             size: end - next,

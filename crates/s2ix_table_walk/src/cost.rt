@@ -3,7 +3,7 @@
 pub struct Cost {
     /// How many looks there were: pairs that were read.
     pub looks: u64,
-    /// How many probes there were: ranges that were read, and windows of a face that were asked for.
+    /// How many probes there were: ranges that were read, and windows that were asked for.
     pub probes: u64,
 }
 

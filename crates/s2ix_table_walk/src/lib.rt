@@ -31,4 +31,4 @@ pub use reader::Reader;
 pub use row::RangeRow;
 pub use sample::SAMPLE_STEP;
 pub use visit::walk;
-pub use window::Window;
+pub use window::{LeafWindow, Window};

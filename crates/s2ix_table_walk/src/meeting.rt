@@ -7,7 +7,7 @@ ghost use Rattle.s2ix_table_walk.specs.Walking.{IsWalk, HasPaid};
 
 use crate::along_ranges::next_met;
 use crate::reader::Reader;
-use crate::walk_state::{KnownFace, WalkState};
+use crate::walk_state::{KnownWindow, WalkState};
 use s2id_core::CellId;
 use s2id_union::CellUnion;
 use s2ix_bag_pairs::Held;
@@ -42,7 +42,7 @@ impl<'a, R: Reader> Meeting<'a, R> {
             seen: 1,
             from: 1,
             place: None,
-            known: KnownFace::none(),
+            known: KnownWindow::none(),
         };
         Meeting {
             reader,

@@ -1,15 +1,15 @@
 ghost use Rattle.std.specs.Prelude.{◌≡◌, ◌<◌, ◌≤◌, ◌+◌, ◌∷◌, length, drop, slice_index_or};
 ghost use Rattle.s2ix_table_walk.specs.Places.{IsPlace, LeadsTo};
-ghost use Rattle.s2ix_table_walk.specs.Table.{range_at};
+ghost use Rattle.s2ix_table_walk.specs.Table.{range_at, leaf_end};
 ghost use Rattle.s2ix_table_walk.specs.Costs.{with_look, with_probe};
-ghost use Rattle.s2ix_table_walk.specs.FaceWindows.{HaveFace};
+ghost use Rattle.s2ix_table_walk.specs.LeafWindows.{HaveLeaves};
 ghost use Rattle.s2ix_table_walk.specs.Shown.{Shown, IsShown};
 ghost use Rattle.s2ix_table_walk.specs.declared.cost.Cost.{Cost as CostSpent};
 
 use crate::cost::Cost;
 use crate::row::RangeRow;
 use crate::sample::SAMPLE_STEP;
-use crate::window::Window;
+use crate::window::LeafWindow;
 use s2ix_bag_pairs::Held;
 
 /// Something that reads a range table and counts what it reads. [`node`](Reader::node) gives a pair, and is one look. [`row`](Reader::row),
@@ -33,12 +33,13 @@ pub trait Reader {
     fn range_count(&self) -> usize
         ensures { result ≡ length (shown self.now).ranges };
 
-    /// A window with all ranges over a face, 0 to 5, and the borders on that face, as a window of the borders. No clause says which borders
-    /// these are: a search reads few ranges if they are those in the window. One probe, since it tells where some ranges begin and end.
-    fn window(&mut self, face: u8) -> (Window, Window)
-        requires { face < 6 }
-        ensures window { HaveFace (shown self.old).ranges face result.0.first result.0.size }
-        ensures borders { result.1.first + result.1.size ≤ length (shown self.old).borders }
+    /// Some ranges that have a leaf, given by its number, among them, and the borders inside of these. No clause says how many these are: a
+    /// search reads few ranges if they are few. One probe, since it tells where some ranges begin and end.
+    fn window(&mut self, leaf: u64) -> LeafWindow
+        requires from { 1 ≤ leaf }
+        requires within { leaf < leaf_end }
+        ensures window { HaveLeaves (shown self.old).ranges leaf result.until result.ranges.first result.ranges.size }
+        ensures borders { result.borders.first + result.borders.size ≤ length (shown self.old).borders }
         ensures same { shown self.new ≡ shown self.old }
         ensures counts { spent self.new ≡ with_probe (spent self.old) };
 

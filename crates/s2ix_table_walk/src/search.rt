@@ -12,15 +12,15 @@ use crate::narrowing::Candidates;
 use crate::power::power_within;
 use crate::reader::Reader;
 use crate::sample::SAMPLE_STEP;
-use crate::walk_state::KnownFace;
+use crate::walk_state::KnownWindow;
 use crate::window::Window;
 use s2id_core::CellId;
 
-// A range that a walk has come to, and the face that is known there.
+// A range that a walk has come to, and the window that is known there.
 #[derive(Clone, Copy)]
 pub(crate) struct Reached {
     pub(crate) range: usize,
-    pub(crate) known: KnownFace,
+    pub(crate) known: KnownWindow,
 }
 
 // The range that has a leaf, of some that have it among them: each probe halves those that are left. It first reads ranges at borders,
@@ -149,10 +149,10 @@ fn narrow<R: Reader>(reader: &mut R, leaf: u64, among: Window) -> Window
     Window { first, size }
 }
 
-// The ranges in which to search for a cell's first leaf: those over the cell's face, from one on that begins by that leaf. It takes one
-// probe at most: on the known face a range near at hand, on another the window of that face.
+// The ranges in which to search for a cell's first leaf, from one on that begins by that leaf. It takes one probe at most: within the known
+// window a range near at hand, and else the window of the leaf.
 #[inline(always)]
-fn ahead<R: Reader>(reader: &mut R, cell: CellId, from: usize, known: KnownFace) -> Candidates
+fn ahead<R: Reader>(reader: &mut R, cell: CellId, from: usize, known: KnownWindow) -> Candidates
     requires known { IsKnown (R.shown reader.old) known }
     requires from { from < length (R.shown reader.old).ranges }
     requires start { (range_at (R.shown reader.old).ranges from).start ≤ first_of cell }
@@ -163,38 +163,38 @@ fn ahead<R: Reader>(reader: &mut R, cell: CellId, from: usize, known: KnownFace)
     ensures kept { NoFewerProbes (R.spent reader.old) (R.spent reader.new) }
     ensures probes { (R.spent reader.new).probes ≤ (R.spent reader.old).probes + 1 }
 {
-    let face = cell.face();
-    if face == known.face {
+    let leaf = cell.span_start();
+    if leaf < known.until {
         let rest = Window {
             first: from,
             size: known.end - from,
         };
-        let among = near(reader, cell.span_start(), rest, known);
+        let among = near(reader, leaf, rest, known);
         return Candidates { among, known };
     }
-    let (window, borders) = reader.window(face);
-    let end = window.first + window.size;
-    let first = from.max(window.first);
+    let window = reader.window(leaf);
+    let end = window.ranges.first + window.ranges.size;
+    let first = from.max(window.ranges.first);
     let among = Window {
         first,
         size: end - first,
     };
-    let known = KnownFace {
-        face,
+    let known = KnownWindow {
+        until: window.until,
         end,
-        borders,
+        borders: window.borders,
         part_end: 0,
     };
     Candidates { among, known }
 }
 
-// How many ranges ahead a search probes before it takes all of those over a face.
+// How many ranges ahead a search probes before it takes all of those of the known window.
 const NEAR: usize = 16;
 
 // Of some ranges those before one that is near at hand, or that one and the rest. It is the 16th one if that is in the part at hand, and
 // else the one at the next border.
 #[inline(always)]
-fn near<R: Reader>(reader: &mut R, leaf: u64, among: Window, known: KnownFace) -> Window
+fn near<R: Reader>(reader: &mut R, leaf: u64, among: Window, known: KnownWindow) -> Window
     requires among { IsWindow (R.shown reader.old).ranges leaf among.first among.size }
     requires borders { known.borders.first + known.borders.size ≤ length (R.shown reader.old).borders }
     ensures window { IsWindow (R.shown reader.old).ranges leaf result.first result.size }
@@ -240,7 +240,7 @@ pub(crate) fn range_from<R: Reader>(
     cell: CellId,
     range: usize,
     seen: u64,
-    known: KnownFace,
+    known: KnownWindow,
 ) -> Reached
     requires beyond { seen < end_of cell }
     requires at_hand { seen < leaf_end → IsFound (R.shown reader.old).ranges range seen }

@@ -11,29 +11,31 @@ pub(crate) struct WalkState<P> {
     pub(crate) seen: u64,
     pub(crate) from: u64,
     pub(crate) place: Option<P>,
-    pub(crate) known: KnownFace,
+    pub(crate) known: KnownWindow,
 }
 
-// The face whose window a walk has asked for last, or 6 if it has asked for none; the ranges over it end before `end`. The walk has not
-// passed its `borders`, and the part at hand ends before the range `part_end`, which is 0 if no part is at hand.
+// The window that a walk has asked for last: each leaf that it has not passed yet, before the number `until`, is in a range before `end`.
+// That is none before it asks. The walk has not passed its `borders`, and the part at hand ends before the range `part_end`, which is 0 if
+// no part is at hand.
 #[derive(Clone, Copy)]
-pub(crate) struct KnownFace {
-    pub(crate) face: u8,
+pub(crate) struct KnownWindow {
+    pub(crate) until: u64,
     pub(crate) end: usize,
     pub(crate) borders: Window,
     pub(crate) part_end: usize,
 }
 
-impl KnownFace {
+impl KnownWindow {
     ghost use Rattle.std.specs.Prelude.{◌≡◌, ◌+◌};
 
-    // No face is known.
-    pub(crate) fn none() -> KnownFace
-        ensures face { result.face ≡ 6 }
+    // No window is known.
+    pub(crate) fn none() -> KnownWindow
+        ensures until { result.until ≡ 0 }
+        ensures end { result.end ≡ 0 }
         ensures borders { result.borders.first + result.borders.size ≡ 0 }
     {
-        KnownFace {
-            face: 6,
+        KnownWindow {
+            until: 0,
             end: 0,
             borders: Window { first: 0, size: 0 },
             part_end: 0,

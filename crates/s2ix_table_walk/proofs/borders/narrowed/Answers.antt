@@ -33,7 +33,7 @@ side-among-requires-2-clause-fits g c =
 -- parted in the middle
 in_middle : (g : Over) (c : After-side-among g)
     → IsNarrowing (g.R.Reader.shown c.args.reader.now) c.args.leaf
-    (record { among = c.side-among.result; low = c.args.at.low; high = c.args.at.high; step = c.args.at.step; room = c.args.at.room / 2 })
+    (record { among = c.side-among.result; low = c.args.at.low; high = c.args.at.high; room = c.args.at.room / 2 })
     × (binary_digits (c.args.at.room / 2) + 1 ≡ binary_digits c.args.at.room)
 in_middle g c =
     let s = g.R.Reader.shown c.args.reader.now in
@@ -45,7 +45,7 @@ in_middle g c =
     let part = side.most in
     let twice = (half_room c.args.at.room c.args.at.among.size is.power is.most (omega arith)).twice in
     after_probe s c.args.leaf c.args.at
-    (record { among = c.side-among.result; low = c.args.at.low; high = c.args.at.high; step = c.args.at.step; room = c.args.at.room / 2 })
+    (record { among = c.side-among.result; low = c.args.at.low; high = c.args.at.high; room = c.args.at.room / 2 })
     is (omega arith) (side.window s.ranges is.window c.start-begins.ensures.start) is.order is.within refl (omega arith)
 
 pub returns-then-before-at-2-clause-narrowing : goal.returns-then-before-at-2-clause-narrowing
@@ -59,11 +59,11 @@ returns-then-before-at-2-clause-probes g c =
     omega arith
 
 -- parted at the border
-at_border : (g : Over) (c : After-side-among-2 g) (low high step : ℕ) → low ≤ high → high ≤ length (g.R.Reader.shown c.args.reader.now).borders
+at_border : (g : Over) (c : After-side-among-2 g) (low high : ℕ) → low ≤ high → high ≤ length (g.R.Reader.shown c.args.reader.now).borders
     → IsNarrowing (g.R.Reader.shown c.args.reader.now) c.args.leaf
-    (record { among = c.side-among-2.result; low = low; high = high; step = step; room = c.args.at.room / 2 })
+    (record { among = c.side-among-2.result; low = low; high = high; room = c.args.at.room / 2 })
     × (binary_digits (c.args.at.room / 2) + 1 ≡ binary_digits c.args.at.room)
-at_border g c low high step order within =
+at_border g c low high order within =
     let s = g.R.Reader.shown c.args.reader.now in
     let is = c.requires.narrowing in
     let after = c.if-border-at.false in
@@ -76,7 +76,7 @@ at_border g c low high step order within =
     ≡ c.args.at.among.first + (c.border-border.result - c.args.at.among.first) =
     let border = c.border-border.ensures in omega arith in
     let begins = c.border_start-begins.ensures.start ∙ ap (λ (k : ℕ). (range_at s.ranges k).start) place in
-    after_probe s c.args.leaf c.args.at (record { among = c.side-among-2.result; low = low; high = high; step = step; room = c.args.at.room / 2 })
+    after_probe s c.args.leaf c.args.at (record { among = c.side-among-2.result; low = low; high = high; room = c.args.at.room / 2 })
     is (omega arith) (side.window s.ranges is.window begins) order within refl (omega arith)
 
 pub returns-then-begins-leaf-clause-narrowing : goal.returns-then-begins-leaf-clause-narrowing
@@ -84,13 +84,13 @@ returns-then-begins-leaf-clause-narrowing g c =
     let is = c.requires.narrowing in
     let some = c.requires.some in
     (at_border g (goal.at.returns-then-begins-leaf-clause-narrowing g c).After-side-among-2
-    (c.next_border-next.result + 1) c.args.at.high _ (omega arith) is.within).0
+    (c.next_border-next.result + 1) c.args.at.high (omega arith) is.within).0
 
 pub returns-then-begins-leaf-clause-probes : goal.returns-then-begins-leaf-clause-probes
 returns-then-begins-leaf-clause-probes g c =
     let is = c.requires.narrowing in
     let digits =
-    (at_border g (goal.at.returns-then-begins-leaf-clause-probes g c).After-side-among-2 c.args.at.low c.args.at.high 0 is.order is.within).1 in
+    (at_border g (goal.at.returns-then-begins-leaf-clause-probes g c).After-side-among-2 c.args.at.low c.args.at.high is.order is.within).1 in
     let probes = ap (λ (z : Cost). z.probes) c.border_start-begins.ensures.counts in
     omega arith
 
@@ -100,12 +100,12 @@ returns-else-begins-leaf-clause-narrowing g c =
     let within = is.within in
     let some = c.requires.some in
     (at_border g (goal.at.returns-else-begins-leaf-clause-narrowing g c).After-side-among-2 c.args.at.low
-    c.next_border-next.result _ (omega arith) (omega arith)).0
+    c.next_border-next.result (omega arith) (omega arith)).0
 
 pub returns-else-begins-leaf-clause-probes : goal.returns-else-begins-leaf-clause-probes
 returns-else-begins-leaf-clause-probes g c =
     let is = c.requires.narrowing in
     let digits =
-    (at_border g (goal.at.returns-else-begins-leaf-clause-probes g c).After-side-among-2 c.args.at.low c.args.at.high 0 is.order is.within).1 in
+    (at_border g (goal.at.returns-else-begins-leaf-clause-probes g c).After-side-among-2 c.args.at.low c.args.at.high is.order is.within).1 in
     let probes = ap (λ (z : Cost). z.probes) c.border_start-begins.ensures.counts in
     omega arith
