@@ -13,7 +13,7 @@ use Rattle.s2ix_table.specs.FaceSpans.{face_begin, no_table, table_of}
 use Rattle.s2ix_table.specs.Faces.{held_on}
 use Rattle.s2ix_table.specs.Joined.{held_in, AreNeighbours}
 use Rattle.s2ix_table.specs.Whole.{AreJoined}
-use Rattle.s2ix_table.proofs.Cuts.{cut, cut_is, cut_to, cut_end, cut_rises, between}
+use Rattle.s2ix_table.proofs.Cuts.{cut, cut_is, cut_to, cut_end, cut_rises, between, starts_rise}
 use Rattle.s2ix_table.proofs.InSpans.{raw_on_face}
 use Rattle.s2ix_table.proofs.OnFaces.{held_between}
 
@@ -47,7 +47,7 @@ start_found starts leaf k rises c last =
 abbrev pub first_of_face : List ℕ → ℕ → ℕ
 first_of_face faces face = slice_index_or faces face 0
 
-start_of : {parts : List SpanRanges} {starts : List ℕ} {offsets : List Offset} {faces : List ℕ} {count : ℕ} (i : ℕ)
+pub start_of : {parts : List SpanRanges} {starts : List ℕ} {offsets : List Offset} {faces : List ℕ} {count : ℕ} (i : ℕ)
     → AreJoined parts starts offsets faces count → i < length parts → slice_index_or starts i 0 ≡ cut i 1 parts
 start_of {parts} {starts} {offsets} {faces} {count} i are lt =
     ap (λ ns. slice_index_or ns i 0) are.starts_are
@@ -89,31 +89,47 @@ faces_rise {parts} {starts} {offsets} {faces} {count} face are lt =
           absurd (omega (arith, one.1, next.1)))
     ]
 
--- a leaf lies in a part of its face
-pub leaf_among : {parts : List SpanRanges} {starts : List ℕ} {offsets : List Offset} {faces : List ℕ} {count : ℕ} (leaf : CellId) (face : ℕ)
-    → AreJoined parts starts offsets faces count → face ≡ face_of leaf
-    → IsAmong starts (raw_of leaf) (first_of_face faces face) (first_of_face faces (face + 1) - first_of_face faces face)
-leaf_among {parts} {starts} {offsets} {faces} {count} leaf face are is =
-    let six = six_faces leaf in
-    let lt : face < 6 = omega arith in
-    let on = raw_on_face leaf in
-    let from : face_begin face ≤ raw_of leaf = omega (arith, on.0, ap face_begin is) in
-    let to : raw_of leaf < face_begin (face + 1) = omega (arith, on.1, ap (λ n. face_begin (n + 1)) is) in
+-- parts begin one after the other
+pub rising_starts : {parts : List SpanRanges} {starts : List ℕ} {offsets : List Offset} {faces : List ℕ} {count : ℕ}
+    → AreJoined parts starts offsets faces count → AllPairs (λ a b. a < b) starts
+rising_starts {parts} are =
+    subst (λ (ns : List ℕ). AllPairs (λ a b. a < b) ns) (sym are.starts_are) (starts_rise 1 parts leaf_end are.neighbours)
+
+-- a part ends where the next one begins, and the last one with the last leaf
+pub end_of : {parts : List SpanRanges} {starts : List ℕ} {offsets : List Offset} {faces : List ℕ} {count : ℕ} (part : ℕ)
+    → AreJoined parts starts offsets faces count → part < length parts
+    → (part + 1 < length parts → slice_index_or starts (part + 1) 0 ≡ (table_of parts part).to)
+    × (part + 1 ≡ length parts → leaf_end ≡ (table_of parts part).to)
+end_of {parts} {starts} {offsets} {faces} {count} part are lt =
+    let to = cut_to part 1 parts leaf_end no_table are.neighbours lt in
+    let same = ap (λ n. cut n 1 parts) (let e : part + 1 ≡ suc part = omega arith in e) in (
+      λ less. let start = start_of (part + 1) are less in omega arith,
+      λ all. let end = cut_end (suc part) 1 parts leaf_end are.neighbours (omega arith) in omega arith,
+    )
+
+-- the last of some parts that have a leaf among them ends after it
+pub leaf_before_end : {parts : List SpanRanges} {starts : List ℕ} {offsets : List Offset} {faces : List ℕ} {count : ℕ} (leaf first size last : ℕ)
+    → AreJoined parts starts offsets faces count → IsAmong starts leaf first size → leaf < leaf_end → last + 1 ≡ first + size
+    → leaf < (table_of parts last).to
+leaf_before_end {parts} {starts} {offsets} {faces} {count} leaf first size last are among lt is =
     let many = length_starts are in
-    let rises = faces_rise face are lt in
-    let next = face_cut (face + 1) are (omega arith) in
-    let begins = are.faces_are.begins face lt in
-    let end : first_of_face faces face + (first_of_face faces (face + 1) - first_of_face faces face) ≡ first_of_face faces (face + 1) = omega arith in
-    record {
-      some = omega arith;
-      within = omega (arith, next.0);
-      by = omega arith;
-      after = λ less.
-          let short : first_of_face faces (face + 1) < length parts = omega arith in
-          let start = start_of (first_of_face faces (face + 1)) are short in
-          let same = ap (λ n. slice_index_or starts n 0) end in
-          omega (arith, next.1);
-    }
+    let within = among.within in
+    let ends = end_of last are (omega arith) in
+    elim (cases_lt (last + 1) (length parts)) [
+      | inl less ↦
+          (let begins = ends.0 less in
+          let after = among.after (omega arith) in
+          let same = ap (λ n. slice_index_or starts n 0) is in
+          omega arith)
+      | inr past ↦ (let end = ends.1 (omega arith) in omega arith)
+    ]
+
+-- the numbers of leaves
+pub raw_within : (c : CellId) → (1 ≤ raw_of c) × (raw_of c < leaf_end)
+raw_within c =
+    let six = six_faces c in
+    let on = raw_on_face c in
+    (omega (arith, on.0), omega (arith, on.1))
 
 -- the last part that begins by a leaf has it
 pub record HasLeaf (span : SpanRanges) (leaf : ℕ) : Type 0 where

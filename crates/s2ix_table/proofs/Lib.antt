@@ -32,3 +32,4 @@ pub mod Put
 pub mod ChangedOnFaces
 pub mod ReadParts
 pub mod OneFace
+pub mod LeafBlocks

@@ -1,31 +1,32 @@
--- The ranges over a face, and those of a part by where they begin.
+-- The ranges of some parts, and those of a part by where they begin.
 use Rattle.std.proofs.Common.{◌≡◌, ℕ, suc, ◌+◌, ◌-◌, ◌<◌, ◌≤◌, List, [], ◌∷◌, length, map, take, drop, get_or, slice_index_or, refl, sym, ◌∙◌, ap, arith, add-one, subst}
 use Rattle.std.proofs.Math.Seq.{take-length}
 use Rattle.std.proofs.lemmas.List.{get_or-map, length-map}
 use Rattle.s2ix_bag_pairs.specs.Collection.{Collection}
 use Rattle.s2ix_table_walk.specs.Table.{Range, range_at, IsTableOver, leaf_end}
-use Rattle.s2ix_table_walk.specs.FaceWindows.{HaveFace}
+use Rattle.s2ix_table_walk.specs.LeafWindows.{HaveLeaves}
 use Rattle.s2ix_table_walk.specs.Stretches.{IsStretch}
 use Rattle.s2ix_table_spans.specs.SpanTable.{SpanRanges}
 use Rattle.s2ix_table.specs.declared.offset.Offset.{Offset}
-use Rattle.s2ix_table.specs.FaceSpans.{face_begin, no_table, table_of}
+use Rattle.s2ix_table.specs.FaceSpans.{no_table, table_of}
 use Rattle.s2ix_table.specs.Joined.{held_in, joined_ranges}
 use Rattle.s2ix_table.specs.Whole.{AreJoined}
-use Rattle.s2ix_table.proofs.Cuts.{cut, cut_is, cut_to}
-use Rattle.s2ix_table.proofs.FirstParts.{first_of_face, face_cut, faces_rise}
+use Rattle.s2ix_table.proofs.Cuts.{cut_is}
+use Rattle.s2ix_table.proofs.FirstParts.{start_of}
 use Rattle.s2ix_table.proofs.Neighbours.{joined_table}
 use Rattle.s2ix_table.proofs.Reading.{no_offset, placed, places_rise, known}
 use Rattle.s2ix_table.proofs.Placing.{IsPart}
 use Rattle.s2ix_table.proofs.Offsets.{high_of}
 
--- ---- all ranges over a face
+-- ---- all ranges of some parts
 
 -- from where one part begins to the end of another
-window_between : (whole first last : List Range) (offset offset_last : Offset) (high high_last face : ℕ) → IsPart whole first offset high
-    → IsPart whole last offset_last high_last → offset.place ≤ offset_last.place → (range_at first 0).start ≡ face_begin face
-    → ((k : ℕ) → k + 1 ≡ length last → (range_at last k).limit ≡ face_begin (face + 1))
-    → HaveFace whole face offset.place (offset_last.place + length last - offset.place)
-window_between whole first last offset offset_last high high_last face a b le begins ends =
+window_between : (whole first last : List Range) (offset offset_last : Offset) (high high_last leaf until : ℕ) → IsPart whole first offset high
+    → IsPart whole last offset_last high_last → offset.place ≤ offset_last.place → (range_at first 0).start ≤ leaf → leaf < until
+    → ((k : ℕ) → k + 1 ≡ length last → (range_at last k).limit ≡ until)
+    → ((j k : ℕ) → j + 1 ≡ k → k < length whole → (range_at whole j).limit ≡ (range_at whole k).start)
+    → HaveLeaves whole leaf until offset.place (offset_last.place + length last - offset.place)
+window_between whole first last offset offset_last high high_last leaf until a b le begins later ends next =
     let some = b.some in
     let within = b.within in
     let by = a.by in
@@ -33,43 +34,42 @@ window_between whole first last offset offset_last high high_last face a b le be
     record {
       some = omega arith;
       within = omega arith;
-      begins = omega arith;
-      ends = λ k e.
-          let own : ℕ = k - offset_last.place in
-          let at : offset_last.place + own ≡ k = omega arith in
+      start = omega arith;
+      later = later;
+      limit = λ more.
+          let own : ℕ = length last - 1 in
           let to = b.to own (omega arith) in
           let end = ends own (omega arith) in
-          let same = ap (λ n. (range_at whole n).limit) at in
+          let after = next (offset_last.place + own) (offset.place + (offset_last.place + length last - offset.place)) (omega arith) more in
           omega arith;
     }
 
-pub face_window : {parts : List SpanRanges} {starts : List ℕ} {offsets : List Offset} {faces : List ℕ} {count : ℕ} (face last end : ℕ) (span : SpanRanges) → AreJoined parts starts offsets faces count → face < 6 → last + 1 ≡ first_of_face faces (face + 1)
-    → span ≡ table_of parts last → end ≡ (get_or offsets last no_offset).place + length span.ranges
-    → ((get_or offsets (first_of_face faces face) no_offset).place ≤ end)
-    × HaveFace (joined_ranges parts) face (get_or offsets (first_of_face faces face) no_offset).place
-    (end - (get_or offsets (first_of_face faces face) no_offset).place)
-face_window {parts} {starts} {offsets} {faces} {count} face last end span are lt is same ends =
+pub parts_window : {parts : List SpanRanges} {starts : List ℕ} {offsets : List Offset} {faces : List ℕ} {count : ℕ} (first last leaf end : ℕ)
+    (span : SpanRanges) → AreJoined parts starts offsets faces count → first ≤ last → last < length parts → slice_index_or starts first 0 ≤ leaf
+    → leaf < (table_of parts last).to → span ≡ table_of parts last → end ≡ (get_or offsets last no_offset).place + length span.ranges
+    → ((get_or offsets first no_offset).place ≤ end)
+    × HaveLeaves (joined_ranges parts) leaf (table_of parts last).to (get_or offsets first no_offset).place
+    (end - (get_or offsets first no_offset).place)
+parts_window {parts} {starts} {offsets} {faces} {count} first last leaf end span are order lt begins later same ends =
     let all = joined_ranges parts in
-    let first = first_of_face faces face in
-    let rises = faces_rise face are lt in
-    let one = face_cut face are (omega arith) in
-    let next = face_cut (face + 1) are (omega arith) in
-    let within : last < length parts = omega (arith, next.0) in
     let first_part = placed first no_table no_offset are (omega arith) in
-    let last_part = placed last no_table no_offset are within in
-    let le = places_rise first last are (omega arith) within in
+    let last_part = placed last no_table no_offset are lt in
+    let le = places_rise first last are order lt in
     let first_is = known first are (omega arith) in
-    let last_is = known last are within in
-    let begins = first_is.table.first in
+    let last_is = known last are lt in
+    let from = first_is.table.first in
     let begin = cut_is first 1 parts leaf_end no_table are.neighbours (omega arith) in
-    let to = cut_to last 1 parts leaf_end no_table are.neighbours within in
-    let cuts = ap (λ n. cut n 1 parts) (let e : suc last ≡ first_of_face faces (face + 1) = omega arith in e) in
+    let start = start_of first are (omega arith) in
+    let whole = joined_table 1 parts leaf_end (omega arith) are.neighbours in
     let have =
     window_between all (table_of parts first).ranges (table_of parts last).ranges (get_or offsets first no_offset) (get_or offsets last no_offset)
-    (high_of offsets first count) (high_of offsets last count) face first_part last_part le (omega (arith, one.1))
-    (λ k e. let limit = last_is.table.last k e in omega (arith, next.1)) in
-    let size = ends ∙ ap (λ (s : SpanRanges). (get_or offsets last no_offset).place + length s.ranges) same in
-    (omega arith, subst (λ n. HaveFace all face (get_or offsets first no_offset).place (n - (get_or offsets first no_offset).place)) (sym size) have)
+    (high_of offsets first count) (high_of offsets last count) leaf (table_of parts last).to first_part last_part le (omega arith) later
+    last_is.table.last whole.next in
+    let size = ends ∙ ap (λ (s : SpanRanges). (get_or offsets last no_offset).place + length s.ranges) same in (
+      omega arith,
+      subst (λ n. HaveLeaves all leaf (table_of parts last).to (get_or offsets first no_offset).place (n - (get_or offsets first no_offset).place))
+          (sym size) have,
+    )
 
 -- ---- those between the first and the last one of a part
 

@@ -20,3 +20,5 @@ pub mod Whole
 pub mod OneProof
 pub mod Parts
 pub mod PartsOf
+pub mod AllLeaves
+pub mod Blocks

@@ -1,4 +1,4 @@
-ghost use Rattle.std.specs.Prelude.{◌≡◌, ◌≤◌, ◌<◌, ◌+◌, ◌*◌, IfOk, IfSome, OnErr, OnOk, length};
+ghost use Rattle.std.specs.Prelude.{◌≡◌, ◌≤◌, ◌<◌, ◌+◌, ◌*◌, IfOk, IfSome, None, OnErr, OnOk, length};
 ghost use Rattle.s2id_core.specs.BinaryDigits.{binary_digits};
 ghost use Rattle.s2id_core.specs.CellId.{raw_of};
 ghost use Rattle.s2ix_bag_pairs.specs.Change.{changed};
@@ -10,8 +10,9 @@ ghost use Rattle.s2ix_table_walk.specs.FaceWindows.{face_begin};
 ghost use Rattle.s2ix_table_walk.specs.Places.{LeadsTo};
 ghost use Rattle.s2ix_table_walk.specs.Shown.{AreBorders};
 ghost use Rattle.s2ix_table_walk.specs.Table.{range_at, IsFound, IsRangeTable, leaf_end};
+ghost use Rattle.s2ix_table.specs.Blocks.{AreBlocks};
 ghost use Rattle.s2ix_table.specs.Faces.{changed_count, held_on};
-ghost use Rattle.s2ix_table.specs.FaceSpans.{BeginFaces, parts_of_face, spans_of, table_of};
+ghost use Rattle.s2ix_table.specs.FaceSpans.{BeginFaces, parts_of_face, spans_of, starts_of, table_of};
 ghost use Rattle.s2ix_table.specs.Joined.{held_in, joined_ranges, AreNeighbours};
 ghost use Rattle.s2ix_table.specs.Offsets.{HasOwn, HasRange, place_on, places_of};
 ghost use Rattle.s2ix_table.specs.OneProof.{joined-prop, joined_once-prop};
@@ -20,6 +21,7 @@ ghost use Rattle.s2ix_table.specs.Parts.{with_parts};
 ghost use Rattle.s2ix_table.specs.Whole.{AreJoined};
 
 use crate::bag_reader::BagReader;
+use crate::blocks::{Blocks, room_for};
 use crate::changes::only_face;
 use crate::counting::{begins_of, count_from, uncounted};
 use crate::new_parts::{NewParts, put_between};
@@ -29,12 +31,12 @@ use crate::part_place::PartPlace;
 use crate::shares_chains::SharesChains;
 use crate::starts::{first_parts, start_by};
 use crate::tables::{read_parts_after, read_tables, share, tables_after};
-use s2id_core::{CellId, FACES, OutOfMemory};
+use s2id_core::{CellId, FACES, LEAF_END, OutOfMemory};
 use s2ix_bag_changes::{Bag, Change};
 use s2ix_bag_pairs::Held;
 use s2ix_table_queries::{RangeTable, Stretch};
 use s2ix_table_spans::SpanTable;
-use s2ix_table_walk::{RangeRow, Window};
+use s2ix_table_walk::{LeafWindow, RangeRow, Window};
 use std::alloc::Global;
 use std::sync::Arc;
 
@@ -54,11 +56,14 @@ pub struct FacedTable {
     offsets: Vec<Offset>,
     // the leaf number at which each part's span begins
     starts: Vec<u64>,
+    // which parts may have a leaf
+    blocks: Blocks,
     // for each face the number of its first part, and after the last face how many parts there are
     faces: [usize; FACES + 1],
     // how many ranges there are
     count: usize,
     ghost joined: { AreJoined (spans_of parts.items) starts.items offsets.items faces count } by { joined-prop (spans_of parts.items) starts.items offsets.items faces count },
+    ghost blocked: { AreBlocks starts.items blocks },
     ghost rises: { IsCollection (held_in (spans_of parts.items)) } by { IsCollection-prop 0 (held_in (spans_of parts.items)) },
     ghost few: { length (held_in (spans_of parts.items)) ≤ 1000000 },
     ghost table: { IsRangeTable (held_in (spans_of parts.items)) (joined_ranges (spans_of parts.items)) },
@@ -103,27 +108,23 @@ impl RangeTable for FacedTable {
         self.row_at(part, own)
     }
 
-    // From the first range of the face's first part to the last one of its last part.
+    // The ranges of a few parts, up to where the part after them begins.
     #[inline]
-    fn window(&self, face: u8) -> Window {
-        let face = usize::from(face);
-        let first = self.offsets[self.faces[face]].place;
-        let last = self.faces[face + 1] - 1;
+    fn window(&self, leaf: u64) -> LeafWindow {
+        let parts = self.blocks.parts_with(&self.starts, leaf);
+        let first = self.offsets[parts.first].place;
+        let last = parts.first + parts.size - 1;
         let end = self.offsets[last].place + self.span(last).range_count();
-        Window {
-            first,
-            size: end - first,
-        }
-    }
-
-    // The borders are those of the parts on the face.
-    #[inline]
-    fn face_borders(&self, face: u8) -> Window {
-        let face = usize::from(face);
-        let first = self.faces[face];
-        Window {
-            first,
-            size: self.faces[face + 1] - first,
+        LeafWindow {
+            ranges: Window {
+                first,
+                size: end - first,
+            },
+            borders: Window {
+                first: parts.first + 1,
+                size: parts.size - 1,
+            },
+            until: self.end_of_part(last),
         }
     }
 
@@ -269,6 +270,7 @@ impl FacedTable {
             ≡ with_parts (spans_of self.old.parts.items) new.first new.end (spans_of new.parts.items)) }
         ensures stay { OnErr result (spans_of self.new.parts.items ≡ spans_of self.old.parts.items) }
     {
+        let blocks = self.blocks_after(alloc, &new)?;
         let NewParts { first, end, parts } = new;
         let count = parts.len();
         let starts = begins_of(alloc, &parts)?;
@@ -281,7 +283,21 @@ impl FacedTable {
         put_between(&mut self.offsets, first, end, offsets);
         self.count = count_from(&self.parts, first, first + count, &mut self.offsets);
         self.faces = first_parts(&self.starts);
+        self.blocks.give_way(blocks, &self.starts);
         Ok(())
+    }
+
+    // Blocks for the parts that there are then, if new parts do not begin where those did that give way. O(p). `OutOfMemory` if a growth is
+    // refused.
+    fn blocks_after(&self, alloc: Global, new: &NewParts) -> Result<Option<Blocks>, OutOfMemory>
+        requires order { new.now.first ≤ new.now.end }
+        requires within { new.now.end ≤ length self.now.parts.items }
+        ensures { IfOk result (λ blocks. blocks ≡ None
+            → starts_of (with_parts (spans_of self.now.parts.items) new.now.first new.now.end (spans_of new.now.parts.items))
+            ≡ self.now.starts.items) }
+    {
+        let count = self.parts.len().saturating_add(new.parts.len());
+        room_for(alloc, count, &self.starts[new.first..new.end], &new.parts)
     }
 
     /// A copy of the table, which shares its parts. O(p) for p parts. `OutOfMemory` if a growth is refused, or a part is shared too often.
@@ -292,10 +308,12 @@ impl FacedTable {
         share(&mut parts, &self.parts)?;
         let starts = Vec::from_slice(alloc, &self.starts)?;
         let offsets = Vec::from_slice(alloc, &self.offsets)?;
+        let blocks = self.blocks.copied(alloc)?;
         Ok(FacedTable {
             parts,
             offsets,
             starts,
+            blocks,
             faces: self.faces,
             count: self.count,
         })
@@ -310,12 +328,15 @@ impl FacedTable {
     {
         let starts = begins_of(alloc, &parts)?;
         let mut offsets = uncounted(alloc, parts.len())?;
+        let mut blocks = Blocks::room(alloc, parts.len())?;
         let count = count_from(&parts, 0, parts.len(), &mut offsets);
         let faces = first_parts(&starts);
+        blocks.count(&starts);
         Ok(FacedTable {
             parts,
             offsets,
             starts,
+            blocks,
             faces,
             count,
         })
@@ -338,6 +359,19 @@ impl FacedTable {
         self.parts.len()
     }
 
+    // The leaf number at which a part's span ends.
+    #[inline]
+    fn end_of_part(&self, part: usize) -> u64
+        requires { part < length (spans_of self.now.parts.items) }
+        ensures { result ≡ (table_of (spans_of self.now.parts.items) part).to }
+    {
+        if part < self.starts.len() - 1 {
+            self.starts[part + 1]
+        } else {
+            LEAF_END
+        }
+    }
+
     // The table of a part.
     #[inline]
     fn span(&self, part: usize) -> &SpanTable
@@ -348,7 +382,7 @@ impl FacedTable {
     }
 
     // The part that has a leaf, and the place in that part's table of the range that has it. O(log n): a search among the parts of the
-    // leaf's face, then one in the part.
+    // leaf's block, then one in the part.
     #[inline]
     fn own_found(&self, leaf: CellId) -> (usize, usize)
         ensures range { HasRange (spans_of self.now.parts.items) result.0 result.1 }
@@ -357,10 +391,8 @@ impl FacedTable {
             (place_on self.now.offsets.items result.0 result.1)
             (raw_of leaf) }
     {
-        let face = usize::from(leaf.face());
-        let first = self.faces[face];
-        let size = self.faces[face + 1] - first;
-        let part = start_by(&self.starts, leaf.raw(), Window { first, size });
+        let among = self.blocks.parts_with(&self.starts, leaf.raw());
+        let part = start_by(&self.starts, leaf.raw(), among);
         (part, self.found_in(part, leaf))
     }
 

@@ -34,6 +34,7 @@
 #![tactic(auto)]
 
 mod bag_reader;
+mod blocks;
 mod chain_table;
 mod changes;
 mod counting;
@@ -66,5 +67,5 @@ pub use s2ix_table_queries::{
     contents, ranges,
 };
 pub use s2ix_table_spans::SpanTable;
-pub use s2ix_table_walk::{Cost, Meeting, RangeRow, Reader, Window, walk};
+pub use s2ix_table_walk::{Cost, LeafWindow, Meeting, RangeRow, Reader, Window, walk};
 pub use shares_chains::SharesChains;

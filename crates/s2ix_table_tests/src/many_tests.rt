@@ -1,5 +1,5 @@
 //! Tables of very many ranges on a face, and the parts that they are kept in.
-use s2id_core::CellId;
+use s2id_core::{CellId, FACE_NUMBERS, LEAF_END};
 use s2id_union::CellUnion;
 use s2ix_bag::{Bag, Change, Entry, Held, Label, Limits, Pair};
 use s2ix_table::{ChainTable, FacedTable, RangeTable};
@@ -68,6 +68,9 @@ fn a_cell_is_found_among_many_ranges(rt: HostRuntime) {
 fn a_face_is_kept_in_parts(rt: HostRuntime) {
     let bag = wide_bag(rt.alloc()).expect(&rt, "a bag");
     let table = FacedTable::build(rt.alloc(), &bag).expect(&rt, "memory");
-    assert!(rt; table.face_borders(5).size >= 39);
-    assert!(rt; table.face_borders(0).size == 1);
+    let first = table.window(5 * FACE_NUMBERS + 1);
+    let last = table.window(LEAF_END - 2);
+    assert!(rt; first.borders.first.saturating_add(38) <= last.borders.first);
+    assert!(rt; last.until == LEAF_END);
+    assert!(rt; table.window(1).borders.size == 0);
 }

@@ -4,6 +4,7 @@ use Rattle.std.proofs.lemmas.List.{take_at}
 use Rattle.s2ix_table_walk.specs.Table.{leaf_end}
 use Rattle.s2ix_table_spans.specs.SpanTable.{SpanRanges}
 use Rattle.s2ix_table.specs.FaceSpans.{face_begin, spans_of, starts_of, AreFirstParts}
+use Rattle.s2ix_table.specs.Blocks.{AreBlocks}
 use Rattle.s2ix_table.specs.Joined.{held_in, joined_ranges, AreNeighbours}
 use Rattle.s2ix_table.specs.Offsets.{offsets_of, AreOffsetsFrom}
 use Rattle.s2ix_table.proofs.Bordering.{parts_begin}
@@ -132,6 +133,24 @@ first_parts-self-requires-clause-first c =
     (c.in_ok-starts.ensures ∙ ap (λ ts. starts_of (spans_of ts)) c.deref.ensures.value) c.put_between-2.ensures in
     ap (λ (ns : List ℕ). slice_index_or ns 0 0) (c.deref-3.ensures.value ∙ starts) ∙ first_start _ c.requires.neighbours
 
+pub give_way-requires-clause-stay : goal.give_way-requires-clause-stay
+give_way-requires-clause-stay c =
+    let t = c.args.self.now in
+    let new = c.args.new in
+    let starts = put_starts (spans_of t.parts.items) (spans_of new.parts.items) c.reserve-2.new.self.items c.put_between-2.new.list.items
+    c.in_ok-starts.starts.items new.first new.end (c.in_ok-reserve-2.ensures.items ∙ t.joined.starts_are)
+    (c.in_ok-starts.ensures ∙ ap (λ ts. starts_of (spans_of ts)) c.deref.ensures.value) c.put_between-2.ensures in
+    λ none. subst (λ (ns : List ℕ). AreBlocks ns t.blocks) (sym (c.deref-4.ensures.value ∙ starts ∙ c.in_ok-blocks.ensures none)) t.blocked
+
+pub give_way-requires-clause-first : goal.give_way-requires-clause-first
+give_way-requires-clause-first c =
+    let t = c.args.self.now in
+    let new = c.args.new in
+    let starts = put_starts (spans_of t.parts.items) (spans_of new.parts.items) c.reserve-2.new.self.items c.put_between-2.new.list.items
+    c.in_ok-starts.starts.items new.first new.end (c.in_ok-reserve-2.ensures.items ∙ t.joined.starts_are)
+    (c.in_ok-starts.ensures ∙ ap (λ ts. starts_of (spans_of ts)) c.deref.ensures.value) c.put_between-2.ensures in
+    ap (λ (ns : List ℕ). slice_index_or ns 0 0) (c.deref-4.ensures.value ∙ starts) ∙ first_start _ c.requires.neighbours
+
 pub invariant_of-self-2 : goal.invariant_of-self-2
 invariant_of-self-2 c =
     let t = c.args.self.now in
@@ -163,6 +182,7 @@ invariant_of-self-2 c =
     (c.count_from-self.ensures.count ∙ ap (λ ts. length (joined_ranges ts)) here) in
     record {
       joined = whole;
+      blocked = subst (λ (ns : List ℕ). AreBlocks ns c.give_way.new.self) c.deref-4.ensures.value c.give_way.ensures;
       rises = all_rise 1 spans leaf_end are;
       few = few;
       table = joined_table 1 spans leaf_end (omega arith) are;

@@ -3,6 +3,7 @@ use Rattle.std.proofs.lemmas.List.{take_at}
 use Rattle.s2ix_table_walk.specs.Table.{leaf_end}
 use Rattle.s2ix_table.specs.FaceSpans.{face_begin, spans_of, starts_of, AreFirstParts}
 use Rattle.s2ix_table.specs.Joined.{joined_ranges}
+use Rattle.s2ix_table.specs.Blocks.{AreBlocks}
 use Rattle.s2ix_table.specs.Offsets.{offsets_of}
 use Rattle.s2ix_table.proofs.Bordering.{parts_begin}
 use Rattle.s2ix_table.proofs.Cuts.{starts_rise}
@@ -31,6 +32,11 @@ first_parts-faces-requires-clause-first c =
     let starts = c.in_ok-starts.ensures ∙ ap (λ ts. starts_of (spans_of ts)) c.deref.ensures.value in
     ap (λ (ns : List ℕ). slice_index_or ns 0 0) (c.deref-3.ensures.value ∙ starts) ∙ first_start spans c.requires.neighbours
 
+pub count-requires-clause-first : goal.count-requires-clause-first
+count-requires-clause-first c =
+    let starts = c.in_ok-starts.ensures ∙ ap (λ ts. starts_of (spans_of ts)) c.deref.ensures.value in
+    ap (λ (ns : List ℕ). slice_index_or ns 0 0) (c.deref-4.ensures.value ∙ starts) ∙ first_start (spans_of c.args.parts.items) c.requires.neighbours
+
 pub invariant_of-result : goal.invariant_of-result
 invariant_of-result c =
     let spans = spans_of c.args.parts.items in
@@ -49,6 +55,7 @@ invariant_of-result c =
     (c.count_from-count.ensures.count ∙ ap (λ ts. length (joined_ranges ts)) here) in
     record {
       joined = whole;
+      blocked = subst (λ (ns : List ℕ). AreBlocks ns c.count.new.self) c.deref-4.ensures.value c.count.ensures;
       rises = all_rise 1 spans leaf_end are;
       few = c.requires.few;
       table = joined_table 1 spans leaf_end (omega arith) are;
