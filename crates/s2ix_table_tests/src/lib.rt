@@ -18,6 +18,8 @@ mod refused_tests;
 #[cfg(test)]
 mod samples;
 #[cfg(test)]
+mod small_parts_tests;
+#[cfg(test)]
 mod span_tests;
 #[cfg(test)]
 mod table_tests;

@@ -67,3 +67,17 @@ pub(crate) fn finds<T: RangeTable>(table: &T, token: &str, k: usize, pairs: &str
         _ => false,
     }
 }
+
+// Whether two tables have the same ranges, with the same pairs over them.
+pub(crate) fn are_same<T: RangeTable, U: RangeTable>(one: &T, other: &U) -> bool {
+    let mut left = ranges(other);
+    for (k, row) in ranges(one) {
+        if left.next() != Some((k, row)) || one.range_count() <= k || other.range_count() <= k {
+            return false;
+        }
+        if !contents(one, k).eq(contents(other, k)) {
+            return false;
+        }
+    }
+    left.next().is_none()
+}
