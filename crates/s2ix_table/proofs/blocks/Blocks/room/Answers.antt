@@ -1,5 +1,4 @@
-use Rattle.std.proofs.Common.{◌≡◌, ◌+◌, ◌/◌, ◌^◌, ◌∙◌, length, ap, arith}
-use Rattle.s2ix_table_walk.specs.Table.{leaf_end}
+use Rattle.std.proofs.Common.{length, arith}
 use Rattle.s2ix_table.proofs.LeafBlocks.{all_leaves}
 use Rattle.s2ix_table.proofs.blocks.Blocks.room.Goals as goal
 

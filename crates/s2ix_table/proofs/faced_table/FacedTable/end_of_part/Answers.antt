@@ -1,6 +1,5 @@
 use Rattle.std.proofs.Common.{◌+◌, ◌<◌, length, ◌∙◌, arith}
 use Rattle.std.proofs.lemmas.List.{get_or_default}
-use Rattle.s2ix_table.specs.FaceSpans.{spans_of}
 use Rattle.s2ix_table.proofs.FirstParts.{end_of, length_starts}
 use Rattle.s2ix_table.proofs.faced_table.FacedTable.end_of_part.Goals as goal
 

@@ -1,4 +1,4 @@
-use Rattle.std.proofs.Common.{ℕ, ◌+◌, ◌<◌, List, length, AllPairs, ◌∙◌, ap, arith, refl, subst, sym}
+use Rattle.std.proofs.Common.{ℕ, ◌+◌, ◌<◌, List, length, AllPairs, ap, arith, refl, subst, sym}
 use Rattle.s2id_core.specs.CellId.{raw_of}
 use Rattle.s2ix_table_walk.specs.Table.{IsFound}
 use Rattle.s2ix_table.specs.FaceSpans.{spans_of, table_of}
