@@ -59,6 +59,42 @@ returns-in_err-change-clause-refused c =
     let p = err_from_is_err_and c.from_residual.result c.from_residual.ensures.1 in
     rw (p.1, p.2) (unplanned a c.in_err-change.field-0.0 c.in_err-change.ensures.refused)
 
+pub returns-in_err-change-clause-full : goal.returns-in_err-change-clause-full
+returns-in_err-change-clause-full c =
+    let a = (goal.at-returns-in_err-change-clause-full c).After-plan in
+    let p = err_from_is_err_and c.from_residual.result c.from_residual.ensures.1 in
+    (told a c.from_residual.result p.0 c.in_err-change.field-0.0 p.1 p.2 c.in_err-change.ensures.refused).full
+
+pub returns-in_err-change-clause-no_such_label : goal.returns-in_err-change-clause-no_such_label
+returns-in_err-change-clause-no_such_label c =
+    let a = (goal.at-returns-in_err-change-clause-no_such_label c).After-plan in
+    let p = err_from_is_err_and c.from_residual.result c.from_residual.ensures.1 in
+    (told a c.from_residual.result p.0 c.in_err-change.field-0.0 p.1 p.2 c.in_err-change.ensures.refused).no_such_label
+
+pub returns-in_err-change-clause-not_held : goal.returns-in_err-change-clause-not_held
+returns-in_err-change-clause-not_held c =
+    let a = (goal.at-returns-in_err-change-clause-not_held c).After-plan in
+    let p = err_from_is_err_and c.from_residual.result c.from_residual.ensures.1 in
+    (told a c.from_residual.result p.0 c.in_err-change.field-0.0 p.1 p.2 c.in_err-change.ensures.refused).not_held
+
+pub returns-in_err-change-clause-too_fine : goal.returns-in_err-change-clause-too_fine
+returns-in_err-change-clause-too_fine c =
+    let a = (goal.at-returns-in_err-change-clause-too_fine c).After-plan in
+    let p = err_from_is_err_and c.from_residual.result c.from_residual.ensures.1 in
+    (told a c.from_residual.result p.0 c.in_err-change.field-0.0 p.1 p.2 c.in_err-change.ensures.refused).too_fine
+
+pub returns-in_err-change-clause-no_such_change : goal.returns-in_err-change-clause-no_such_change
+returns-in_err-change-clause-no_such_change c =
+    let a = (goal.at-returns-in_err-change-clause-no_such_change c).After-plan in
+    let p = err_from_is_err_and c.from_residual.result c.from_residual.ensures.1 in
+    (told a c.from_residual.result p.0 c.in_err-change.field-0.0 p.1 p.2 c.in_err-change.ensures.refused).no_such_change
+
+pub returns-in_err-change-clause-below_zero : goal.returns-in_err-change-clause-below_zero
+returns-in_err-change-clause-below_zero c =
+    let a = (goal.at-returns-in_err-change-clause-below_zero c).After-plan in
+    let p = err_from_is_err_and c.from_residual.result c.from_residual.ensures.1 in
+    (told a c.from_residual.result p.0 c.in_err-change.field-0.0 p.1 p.2 c.in_err-change.ensures.refused).below_zero
+
 pub returns-in_err-change-clause-too_many_copies : goal.returns-in_err-change-clause-too_many_copies
 returns-in_err-change-clause-too_many_copies c =
     let a = (goal.at-returns-in_err-change-clause-too_many_copies c).After-plan in
