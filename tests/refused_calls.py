@@ -25,12 +25,12 @@ COUNTED = [
     ("s2ix_text_tests", "refused_growths::a_change_of_a_pair", "refused_growths::a_change_of_nine_pairs", 0),
     ("s2ix_table_tests", "refused_growths::a_bag", "refused_growths::a_face_of_a_bag", 0),
     ("s2ix_edit_tests", "refused_tests::refused_regions", "refused_tests::refused_regions_after_a_forget", 0),
-    ("s2ix_edit_tests", "refused_growths::a_store_of_a_face", "refused_growths::an_edit_of_a_face", 24),
-    ("s2ix_edit_tests", "refused_growths::an_edit_of_a_face", "refused_growths::an_undo_of_a_face", 22),
-    ("s2ix_edit_tests", "refused_growths::an_undo_of_a_face", "refused_growths::a_redo_of_a_face", 20),
-    ("s2ix_edit_tests", "refused_growths::a_store_of_six_faces", "refused_growths::an_edit_beside_five_faces", 24),
-    ("s2ix_edit_tests", "refused_growths::an_edit_beside_five_faces", "refused_growths::an_undo_beside_five_faces", 22),
-    ("s2ix_edit_tests", "refused_growths::an_undo_beside_five_faces", "refused_growths::a_redo_beside_five_faces", 20),
+    ("s2ix_edit_tests", "refused_growths::a_store_of_a_face", "refused_growths::an_edit_of_a_face", 25),
+    ("s2ix_edit_tests", "refused_growths::an_edit_of_a_face", "refused_growths::an_undo_of_a_face", 23),
+    ("s2ix_edit_tests", "refused_growths::an_undo_of_a_face", "refused_growths::a_redo_of_a_face", 21),
+    ("s2ix_edit_tests", "refused_growths::a_store_of_six_faces", "refused_growths::an_edit_beside_five_faces", 25),
+    ("s2ix_edit_tests", "refused_growths::an_edit_beside_five_faces", "refused_growths::an_undo_beside_five_faces", 23),
+    ("s2ix_edit_tests", "refused_growths::an_undo_beside_five_faces", "refused_growths::a_redo_beside_five_faces", 21),
 ]
 
 
