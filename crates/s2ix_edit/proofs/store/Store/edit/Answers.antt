@@ -13,7 +13,7 @@ use Rattle.s2ix_edit.proofs.Answered.{Answers, answers_recorded, answers_refused
 use Rattle.s2ix_edit.proofs.Followed.{history_edited}
 use Rattle.s2ix_edit.proofs.Led.{counts_recorded}
 use Rattle.s2ix_edit.proofs.Planned.{planned_state, plans_of, refusal_of_entries, refused_of, stand}
-use Rattle.s2ix_edit.proofs.store.Store.edit.Goals.{After-plan, In_ok-change}
+use Rattle.s2ix_edit.proofs.store.Store.edit.Goals.{After-from_residual, After-plan, In_ok-change}
 use Rattle.s2ix_edit.proofs.store.Store.edit.Goals as goal
 
 stood : (c : After-plan) → IsStore c.args.self.now
@@ -53,6 +53,12 @@ told c r error why is same refused =
     let Refused : EditError → Type 0 = λ e. IsEditRefusal e (edit_refusal c.args.self.now c.args.edit.now) in
     answers_refused c.args.self.now c.args.edit.now r error (stood c) is (subst Refused (sym same) (unplanned c why refused))
 
+-- and so the edit answers with it
+untold : (c : After-from_residual) → Answers c.args.self.now c.args.edit.now c.from_residual.result
+untold c =
+    let p = err_from_is_err_and c.from_residual.result c.from_residual.ensures.1 in
+    told c.before.before.before c.from_residual.result p.0 c.in_err-change.field-0.0 p.1 p.2 c.in_err-change.ensures.refused
+
 pub returns-in_err-change-clause-refused : goal.returns-in_err-change-clause-refused
 returns-in_err-change-clause-refused c =
     let a = (goal.at-returns-in_err-change-clause-refused c).After-plan in
@@ -60,52 +66,28 @@ returns-in_err-change-clause-refused c =
     rw (p.1, p.2) (unplanned a c.in_err-change.field-0.0 c.in_err-change.ensures.refused)
 
 pub returns-in_err-change-clause-full : goal.returns-in_err-change-clause-full
-returns-in_err-change-clause-full c =
-    let a = (goal.at-returns-in_err-change-clause-full c).After-plan in
-    let p = err_from_is_err_and c.from_residual.result c.from_residual.ensures.1 in
-    (told a c.from_residual.result p.0 c.in_err-change.field-0.0 p.1 p.2 c.in_err-change.ensures.refused).full
+returns-in_err-change-clause-full c = (untold (goal.at-returns-in_err-change-clause-full c).After-from_residual).full
 
 pub returns-in_err-change-clause-no_such_label : goal.returns-in_err-change-clause-no_such_label
-returns-in_err-change-clause-no_such_label c =
-    let a = (goal.at-returns-in_err-change-clause-no_such_label c).After-plan in
-    let p = err_from_is_err_and c.from_residual.result c.from_residual.ensures.1 in
-    (told a c.from_residual.result p.0 c.in_err-change.field-0.0 p.1 p.2 c.in_err-change.ensures.refused).no_such_label
+returns-in_err-change-clause-no_such_label c = (untold (goal.at-returns-in_err-change-clause-no_such_label c).After-from_residual).no_such_label
 
 pub returns-in_err-change-clause-not_held : goal.returns-in_err-change-clause-not_held
-returns-in_err-change-clause-not_held c =
-    let a = (goal.at-returns-in_err-change-clause-not_held c).After-plan in
-    let p = err_from_is_err_and c.from_residual.result c.from_residual.ensures.1 in
-    (told a c.from_residual.result p.0 c.in_err-change.field-0.0 p.1 p.2 c.in_err-change.ensures.refused).not_held
+returns-in_err-change-clause-not_held c = (untold (goal.at-returns-in_err-change-clause-not_held c).After-from_residual).not_held
 
 pub returns-in_err-change-clause-too_fine : goal.returns-in_err-change-clause-too_fine
-returns-in_err-change-clause-too_fine c =
-    let a = (goal.at-returns-in_err-change-clause-too_fine c).After-plan in
-    let p = err_from_is_err_and c.from_residual.result c.from_residual.ensures.1 in
-    (told a c.from_residual.result p.0 c.in_err-change.field-0.0 p.1 p.2 c.in_err-change.ensures.refused).too_fine
+returns-in_err-change-clause-too_fine c = (untold (goal.at-returns-in_err-change-clause-too_fine c).After-from_residual).too_fine
 
 pub returns-in_err-change-clause-no_such_change : goal.returns-in_err-change-clause-no_such_change
-returns-in_err-change-clause-no_such_change c =
-    let a = (goal.at-returns-in_err-change-clause-no_such_change c).After-plan in
-    let p = err_from_is_err_and c.from_residual.result c.from_residual.ensures.1 in
-    (told a c.from_residual.result p.0 c.in_err-change.field-0.0 p.1 p.2 c.in_err-change.ensures.refused).no_such_change
+returns-in_err-change-clause-no_such_change c = (untold (goal.at-returns-in_err-change-clause-no_such_change c).After-from_residual).no_such_change
 
 pub returns-in_err-change-clause-below_zero : goal.returns-in_err-change-clause-below_zero
-returns-in_err-change-clause-below_zero c =
-    let a = (goal.at-returns-in_err-change-clause-below_zero c).After-plan in
-    let p = err_from_is_err_and c.from_residual.result c.from_residual.ensures.1 in
-    (told a c.from_residual.result p.0 c.in_err-change.field-0.0 p.1 p.2 c.in_err-change.ensures.refused).below_zero
+returns-in_err-change-clause-below_zero c = (untold (goal.at-returns-in_err-change-clause-below_zero c).After-from_residual).below_zero
 
 pub returns-in_err-change-clause-too_many_copies : goal.returns-in_err-change-clause-too_many_copies
-returns-in_err-change-clause-too_many_copies c =
-    let a = (goal.at-returns-in_err-change-clause-too_many_copies c).After-plan in
-    let p = err_from_is_err_and c.from_residual.result c.from_residual.ensures.1 in
-    (told a c.from_residual.result p.0 c.in_err-change.field-0.0 p.1 p.2 c.in_err-change.ensures.refused).too_many_copies
+returns-in_err-change-clause-too_many_copies c = (untold (goal.at-returns-in_err-change-clause-too_many_copies c).After-from_residual).too_many_copies
 
 pub returns-in_err-change-clause-too_many_pairs : goal.returns-in_err-change-clause-too_many_pairs
-returns-in_err-change-clause-too_many_pairs c =
-    let a = (goal.at-returns-in_err-change-clause-too_many_pairs c).After-plan in
-    let p = err_from_is_err_and c.from_residual.result c.from_residual.ensures.1 in
-    (told a c.from_residual.result p.0 c.in_err-change.field-0.0 p.1 p.2 c.in_err-change.ensures.refused).too_many_pairs
+returns-in_err-change-clause-too_many_pairs c = (untold (goal.at-returns-in_err-change-clause-too_many_pairs c).After-from_residual).too_many_pairs
 
 pub returns-in_err-change-clause-reverting : goal.returns-in_err-change-clause-reverting
 returns-in_err-change-clause-reverting c =
