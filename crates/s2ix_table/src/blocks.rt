@@ -11,8 +11,8 @@ use s2ix_table_walk::Window;
 use std::alloc::Global;
 use std::sync::Arc;
 
-// All leaves in blocks of 2 ^ `shift` leaf numbers each, and for each block the last part that begins by its first number. One block more
-// follows the last leaf.
+// All leaves in blocks of 2 ^ `shift` leaf numbers each, and for each block the last part that begins at or before its first number. One
+// block more follows the last leaf.
 #[derive(Debug, Drop)]
 pub(crate) struct Blocks {
     lasts: Vec<usize>,
@@ -65,7 +65,7 @@ impl Blocks {
         }
     }
 
-    // Of the parts that begin at these starts a few that have that of a leaf among them. It reads one start. O(1).
+    // A few of the parts that begin at these starts: one of them has the leaf. It reads one start. O(1).
     #[inline]
     pub(crate) fn parts_with(&self, starts: &[u64], leaf: u64) -> Window
         requires counted { AreBlocks starts.now self.now }

@@ -11,7 +11,7 @@ use s2ix_table_spans::SpanTable;
 use std::alloc::Global;
 use std::sync::Arc;
 
-// The leaf numbers from which on parts have their spans. O(p) for p parts. `OutOfMemory` if a growth is refused.
+// The leaf number at which each part's span begins. O(p) for p parts. `OutOfMemory` if a growth is refused.
 pub(crate) fn begins_of(alloc: Global, parts: &[Arc<SpanTable>]) -> Result<Vec<u64>, OutOfMemory>
     ensures { IfOk result (λ begins. begins.items ≡ starts_of (spans_of parts.now)) }
 {
@@ -22,7 +22,7 @@ pub(crate) fn begins_of(alloc: Global, parts: &[Arc<SpanTable>]) -> Result<Vec<u
     Ok(begins)
 }
 
-// Offsets that are still to be counted, so many. `OutOfMemory` if a growth is refused.
+// So many offsets, which are still to be counted. `OutOfMemory` if a growth is refused.
 pub(crate) fn uncounted(alloc: Global, count: usize) -> Result<Vec<Offset>, OutOfMemory>
     ensures { IfOk result (λ offsets. length offsets.items ≡ count) }
 {

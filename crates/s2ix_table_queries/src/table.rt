@@ -63,8 +63,8 @@ pub trait RangeTable: Sized {
         ensures start { result.start ≡ (range_at (ranges self.now) k).start }
         ensures limit { result.limit ≡ (range_at (ranges self.now) k).limit };
 
-    /// Some ranges that have a leaf, given by its number, among them, the borders inside of these, and how far they serve; by default all
-    /// ranges of the table, and no border. No clause says how many these are: a search for a range is quicker if they are few. O(1).
+    /// Neighbouring ranges of which one has a leaf, given by its number, the borders inside of them, and how far they serve; by default all
+    /// ranges of the table, and no border. No clause says how many there are: a search for a range is quicker if there are few. O(1).
     fn window(&self, leaf: u64) -> LeafWindow
         requires from { 1 ≤ leaf }
         requires within { leaf < leaf_end }

@@ -51,7 +51,7 @@ impl Both {
         self.take(alloc, &change)
     }
 
-    // Whether the table has the ranges of one table of the bag without parts, with the same pairs over them.
+    // Whether the table has the same ranges as a table of the bag that has no parts, with the same pairs over them.
     fn is_whole(&self, alloc: Global) -> Option<bool> {
         let table = ChainTable::build(alloc, &self.bag).ok()?;
         Some(are_same(&self.table, &table))

@@ -33,8 +33,8 @@ pub trait Reader {
     fn range_count(&self) -> usize
         ensures { result ≡ length (shown self.now).ranges };
 
-    /// Some ranges that have a leaf, given by its number, among them, and the borders inside of these. No clause says how many these are: a
-    /// search reads few ranges if they are few. One probe, since it tells where some ranges begin and end.
+    /// Neighbouring ranges of which one has a leaf, given by its number, and the borders inside of them. No clause says how many there are: a
+    /// search reads few ranges if there are few. One probe, since it tells where some ranges begin and end.
     fn window(&mut self, leaf: u64) -> LeafWindow
         requires from { 1 ≤ leaf }
         requires within { leaf < leaf_end }

@@ -10,9 +10,9 @@ pub struct Window {
 /// Where a table has a leaf, and the leaves after it.
 #[derive(Clone, Copy, Debug)]
 pub struct LeafWindow {
-    /// Ranges that have that of the leaf among them.
+    /// Neighbouring ranges: one of them has the leaf.
     pub ranges: Window,
-    /// The borders inside of these ranges, as a window of the borders. The part at the border before them has the first range.
+    /// The borders inside of these ranges, as a window of the borders. The first range is in the part that begins at the border before them.
     pub borders: Window,
     /// Each leaf from that one on and before this number is in one of these ranges too.
     pub until: u64,
