@@ -46,8 +46,8 @@ impl Bag {
         }
     }
 
-    /// The bag that holds no pair. As it grows, it is cut into parts of at most `most` pairs each; other bags have parts of at most 512. A part
-    /// has more only if cells reach across each place where it could be cut. It does not allocate.
+    /// The bag that holds no pair. As it grows, it is cut into parts of at most `most` pairs each, but at least one; other bags have parts of at
+    /// most 512. It does not allocate.
     pub fn in_parts_of(_alloc: Global, limits: Limits, most: usize) -> Bag
         ensures { result ≡ record { limits = limits; held = [] } }
     {

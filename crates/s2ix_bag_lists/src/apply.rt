@@ -1,6 +1,5 @@
-ghost use Rattle.std.specs.Prelude.{◌≡◌, ◌<◌, ◌≤◌, ◌==◌, ◌++◌, not, nat_lt, [], length, count_by, position, IfOk, OnOk};
+ghost use Rattle.std.specs.Prelude.{◌≡◌, ◌==◌, ◌++◌, not, nat_lt, [], count_by, position, IfOk, OnOk};
 ghost use Rattle.std.specs.List.{list_any};
-ghost use Rattle.s2ix_bag_lists.specs.Apply.{AreBefore};
 ghost use Rattle.s2ix_bag_pairs.specs.Change.{IsChangeList, changed};
 ghost use Rattle.s2ix_bag_pairs.specs.Collection.{IsCollection, count_in, held_with};
 
@@ -42,16 +41,6 @@ pub fn losses(entries: &[Entry]) -> usize
     entries.iter().filter(|e| e.after == 0).count()
 }
 
-// How many pairs are held once a change is applied that has the right counts before. O(m).
-pub(crate) fn length_after(held: &[FlatHeld], entries: &[Entry]) -> usize
-    requires held_rise { IsCollection held.now }
-    requires entries_rise { IsChangeList entries.now }
-    requires before { AreBefore held.now entries.now }
-    ensures { result ≡ length (changed held.now entries.now) }
-{
-    held.len() + gains(entries) - losses(entries)
-}
-
 /// Whether an entry's count after is above the limit. O(m).
 pub fn has_count_above(entries: &[Entry], limit: u32) -> bool
     ensures { result ≡ list_any (λ e. nat_lt limit e.after) entries.now }
@@ -69,8 +58,8 @@ fn push_held(out: &mut Vec<FlatHeld>, pair: Pair, count: u32) -> Result<(), OutO
     Ok(())
 }
 
-/// The held pairs once a change is applied that has the right counts before. One growth; `OutOfMemory` if it is refused.
-/// O(n + m).
+/// The held pairs once a change is applied: each pair of an entry has the entry's count after. One growth if the counts before are right;
+/// `OutOfMemory` if a growth is refused. O(n + m).
 pub fn merge(
     alloc: Global,
     held: &[FlatHeld],
@@ -78,10 +67,9 @@ pub fn merge(
 ) -> Result<Vec<FlatHeld>, OutOfMemory>
     requires held_rise { IsCollection held.now }
     requires entries_rise { IsChangeList entries.now }
-    requires before { AreBefore held.now entries.now }
     ensures { IfOk result (λ v. v.items ≡ changed held.now entries.now) }
 {
-    let mut out = Vec::with_capacity(alloc, length_after(held, entries))?;
+    let mut out = Vec::with_capacity(alloc, held.len().saturating_add(gains(entries)))?;
     let mut rest = held;
     for entry in entries {
         let (smaller, from_pair) = rest.split_at(next_from(rest, entry.pair));

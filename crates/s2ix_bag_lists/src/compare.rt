@@ -41,8 +41,8 @@ fn push_difference(
     Ok(())
 }
 
-/// The entries of the change that leads from `old` to `new`: the pairs whose counts differ, with both counts, rising. `OutOfMemory` if a growth
-/// is refused. O(k + n) for their k and n pairs.
+/// The entries of the change that leads from `old` to `new`: the pairs whose counts differ, with both counts, rising. `OutOfMemory` if a
+/// growth is refused. O(k + n) for their k and n pairs.
 pub fn differences(
     alloc: Global,
     old: &[FlatHeld],

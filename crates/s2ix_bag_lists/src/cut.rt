@@ -1,4 +1,4 @@
-//! How held pairs are cut into parts: at places that no cell crosses.
+//! How held pairs are cut into parts: at places that no cell crosses, if one is near.
 ghost use Rattle.std.specs.Prelude.{◌≡◌, ◌<◌, ◌≤◌, length, IfOk, IfSome};
 ghost use Rattle.s2ix_bag_lists.specs.Faces.{all_of};
 ghost use Rattle.s2ix_bag_lists.specs.Parts.{AreFilled};
@@ -8,7 +8,7 @@ use crate::held_list::HeldList;
 use s2id_core::OutOfMemory;
 use std::alloc::Global;
 
-// The least first leaf of the cells from each place on.
+// For each pair the least leaf number at which its cell or a later one begins.
 fn first_leaves(alloc: Global, held: &[FlatHeld]) -> Result<Vec<u64>, OutOfMemory>
     ensures { IfOk result (λ leaves. length leaves.items ≡ length held.now) }
 {
@@ -35,18 +35,19 @@ fn clean_ends(alloc: Global, held: &[FlatHeld]) -> Result<Vec<bool>, OutOfMemory
     Ok(ends)
 }
 
-// The first number of pairs, from `least` on, with which a part may end; all that are left if there is none.
-fn next_end(ends: &[bool], least: usize) -> usize
-    requires some { 0 < length ends.now }
-    requires within { least ≤ length ends.now }
-    ensures some { 0 < result }
-    ensures within { result ≤ length ends.now }
+// The first number of pairs, from `least` up to `most`, with which a part may end.
+fn first_end(ends: &[bool], least: usize, most: usize) -> Option<usize>
+    requires { most ≤ length ends.now }
+    ensures { IfSome result (λ len. (0 < len) × (len ≤ length ends.now)) }
 {
     let mut len = least.max(1);
-    while len < ends.len() && !ends[len - 1] {
+    while len <= most {
+        if ends[len - 1] {
+            return Some(len);
+        }
         len += 1;
     }
-    len
+    None
 }
 
 // The last number of pairs, up to `most` and above `least`, with which a part may end.
@@ -64,9 +65,37 @@ fn last_end(ends: &[bool], least: usize, most: usize) -> Option<usize>
     None
 }
 
-// How many pairs the next part takes of those that are left: about three quarters of the most, and more only if no clean end is near.
-fn piece_len(ends: &[bool], most: usize) -> usize
-    requires { 0 < length ends.now }
+// With how many pairs, from `least` up to `most`, a part ends if at each of these ends a cell reaches across. Such a cell contains the
+// cells at both sides: the part ends where the finest cell that does so is coarsest, and at the last of such ends. So parts are cut between
+// light cells, though a label lies over all of them.
+fn coarsest_end(held: &[FlatHeld], least: usize, most: usize) -> usize
+    requires { most < length held.now }
+    ensures some { 0 < result }
+    ensures within { result ≤ length held.now }
+{
+    let mut end = most.max(1);
+    let mut coarsest = u8::MAX;
+    let mut len = least.max(1);
+    while len <= most {
+        let level = common_level(&held[len - 1], &held[len]);
+        if level <= coarsest {
+            coarsest = level;
+            end = len;
+        }
+        len += 1;
+    }
+    end
+}
+
+// The level of the finest cell that contains the cells of two pairs; 0 if there is none.
+fn common_level(one: &FlatHeld, other: &FlatHeld) -> u8 {
+    one.cell().common_level(other.cell()).unwrap_or(0)
+}
+
+// How many pairs the next part takes of those that are left: about three quarters of `most`, which leaves it room to grow.
+fn piece_len(held: &[FlatHeld], ends: &[bool], most: usize) -> usize
+    requires as_many { length ends.now ≡ length held.now }
+    requires some { 0 < length ends.now }
     ensures some { 0 < result }
     ensures within { result ≤ length ends.now }
 {
@@ -74,15 +103,17 @@ fn piece_len(ends: &[bool], most: usize) -> usize
         return ends.len();
     }
     let quarter = most / 4;
-    let len = next_end(ends, most - quarter);
-    if len > most {
-        last_end(ends, quarter, most - quarter).unwrap_or(len)
-    } else {
-        len
+    let usual = most - quarter;
+    if let Some(len) = first_end(ends, usual, most) {
+        return len;
     }
+    if let Some(len) = last_end(ends, quarter, usual) {
+        return len;
+    }
+    coarsest_end(held, quarter, usual)
 }
 
-/// Held pairs, cut into parts of at most about `most` pairs. O(n). `OutOfMemory` if a growth is refused.
+/// Held pairs, cut into parts of at most `most` pairs, but at least one. O(n). `OutOfMemory` if a growth is refused.
 pub(crate) fn cut(
     alloc: Global,
     held: &[FlatHeld],
@@ -110,7 +141,7 @@ fn cut_at(
     let mut rest = held;
     let mut rest_ends = ends;
     while !rest.is_empty() {
-        let len = piece_len(rest_ends, most);
+        let len = piece_len(rest, rest_ends, most);
         let (own, later) = rest.split_at(len);
         parts.push(HeldList::new(alloc, Vec::from_slice(alloc, own)?)?)?;
         rest = later;

@@ -18,7 +18,7 @@ use std::alloc::{AllocError, Global};
 use std::marker::Model;
 use std::sync::Arc;
 
-/// The most pairs that a part has, unless cells reach across each place where it could be cut.
+/// The most pairs that a part has, if its list says nothing else.
 pub(crate) const MOST_PAIRS: usize = 512;
 
 /// Held pairs, mostly those of one face, at most 1,000,000, in parts. A change copies the parts on which it has entries, and shares the
@@ -46,23 +46,35 @@ impl HeldParts {
         HeldParts::in_parts_of(MOST_PAIRS)
     }
 
-    /// The list without pairs. As it grows, it is cut into parts of at most `most` pairs each. A part has more only if cells reach across each
-    /// place where it could be cut.
+    /// The list without pairs. As it grows, it is cut into parts of at most `most` pairs each, but at least one.
     pub fn in_parts_of(most: usize) -> HeldParts
         ensures { result ≡ [] }
     {
         HeldParts { shared: None, most }
     }
 
-    /// These pairs: as one part, without a copy, if they fit into it, else copied into parts. O(n) for n pairs. `OutOfMemory` if a growth is
-    /// refused.
+    /// These pairs: as one part, without a copy, if they fit into it, else copied into parts. O(n) for n pairs. `OutOfMemory` if a growth
+    /// is refused.
     pub fn new(alloc: Global, held: Vec<FlatHeld>) -> Result<HeldParts, OutOfMemory>
         requires rises { IsCollection held.items }
         requires few { length held.items ≤ 1000000 }
         ensures { IfOk result (λ list. list ≡ held.items) }
     {
-        let parts = pieces(alloc, held, MOST_PAIRS)?;
-        HeldParts::from_parts(alloc, parts, MOST_PAIRS)
+        HeldParts::new_in_parts_of(alloc, held, MOST_PAIRS)
+    }
+
+    /// The same in parts of at most `most` pairs each, but at least one, to which it keeps as it grows.
+    pub fn new_in_parts_of(
+        alloc: Global,
+        held: Vec<FlatHeld>,
+        most: usize,
+    ) -> Result<HeldParts, OutOfMemory>
+        requires rises { IsCollection held.items }
+        requires few { length held.items ≤ 1000000 }
+        ensures { IfOk result (λ list. list ≡ held.items) }
+    {
+        let parts = pieces(alloc, held, most)?;
+        HeldParts::from_parts(alloc, parts, most)
     }
 
     // A copy of these pairs, cut into parts. O(n) for n pairs. `OutOfMemory` if a growth is refused.
@@ -98,6 +110,11 @@ impl HeldParts {
             shared: Some(shared),
             most,
         })
+    }
+
+    /// The most pairs that a part has. No clause says so, as it concerns costs only. O(1).
+    pub fn most(&self) -> usize {
+        self.most
     }
 
     /// How many distinct pairs are held. O(1).
@@ -192,7 +209,7 @@ impl HeldParts {
         HeldParts::from_parts(alloc, parts, self.most)
     }
 
-    // The parts that a change leaves which has the right counts before.
+    // What a change that has the right counts before makes of the parts.
     fn changed_parts(&self, alloc: Global, entries: &[Entry]) -> Result<Vec<HeldList>, OutOfMemory>
         requires entries_rise { IsChangeList entries.now }
         requires before { AreBefore self.now entries.now }

@@ -1,11 +1,11 @@
 //! What bags and changes are made of: rising lists of held pairs and of entries.
 //!
-//! Over slices: calls find a count in a list of held pairs, merge a change into one, compare two lists, and test whether a list of entries is
-//! a change ([`fault`]). The other calls require that their lists are in order, and do not test it.
+//! Over slices: calls find a count in a list of held pairs, merge a change into one, compare two lists, and test whether a list of entries
+//! is a change ([`fault`]). The other calls require that their lists are in order, and do not test it.
 //!
-//! As a whole: a [`FaceLists`] holds the pairs of a collection, and contracts see them as one rising list. It keeps the pairs of each face in
-//! a [`HeldParts`], which cuts them into parts. All of it is shared: a copy raises six counters. A change copies only the parts on which it
-//! has entries, and parts beside them that have become small. Costs are for n held pairs and m entries.
+//! As a whole: a [`FaceLists`] holds the pairs of a collection, and contracts see them as one rising list. It keeps the pairs of each face
+//! in a [`HeldParts`], which cuts them into parts. All of it is shared: a copy raises six counters. A change copies only the parts on which
+//! it has entries, and parts beside them that have become small. Costs are for n held pairs and m entries.
 #![tactic(auto)]
 
 mod apply;

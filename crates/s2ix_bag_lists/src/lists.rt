@@ -17,7 +17,8 @@ use s2ix_bag_pairs::{Entry, Held, Limits, Pair};
 use std::alloc::{AllocError, Global};
 use std::marker::Model;
 
-/// Held pairs, at most 1,000,000, in one list of parts for each face. Contracts see the one list that they make up, in rising order of pairs.
+/// Held pairs, at most 1,000,000, in one list of parts for each face. Contracts see the one list that they make up, in rising order of
+/// pairs.
 #[derive(Debug, Drop)]
 pub struct FaceLists {
     lists: [HeldParts; FACES],
@@ -57,8 +58,7 @@ impl FaceLists {
         FaceLists::in_parts_of(MOST_PAIRS)
     }
 
-    /// The lists that hold no pair. As they grow, each is cut into parts of at most `most` pairs. A part has more only if cells reach across
-    /// each place where it could be cut. They do not allocate.
+    /// The lists that hold no pair. As they grow, each is cut into parts of at most `most` pairs, but at least one. They do not allocate.
     pub fn in_parts_of(most: usize) -> FaceLists
         ensures { result ≡ [] }
     {
@@ -202,7 +202,8 @@ impl FaceLists {
     }
 
     /// What a change that has the right counts before makes of the pairs. The parts without an entry are shared, the others
-    /// copied: O(p + k + m) for m entries, the p parts of their faces and the k pairs of the entries' parts. `OutOfMemory` if a growth is refused.
+    /// copied: O(p + k + m) for m entries, the p parts of their faces and the k pairs of the entries' parts. `OutOfMemory` if a growth is
+    /// refused.
     pub fn after(&self, alloc: Global, entries: &[Entry]) -> Result<FaceLists, OutOfMemory>
         requires entries_rise { IsChangeList entries.now }
         requires before { AreBefore self.now entries.now }

@@ -22,6 +22,15 @@ pub fn change_of(alloc: Global, entries: &str) -> Option<Change> {
     Change::from_entries(alloc, &all).ok()
 }
 
+/// The changes with the entries that texts list, each its own, in their order.
+pub fn changes_of(alloc: Global, texts: &[&str]) -> Option<Vec<Change>> {
+    let mut changes = Vec::new(alloc);
+    for text in texts {
+        changes.push(change_of(alloc, text)?).ok()?;
+    }
+    Some(changes)
+}
+
 /// Whether a change has these entries and no others.
 pub fn lists_entries(change: &Change, entries: &str) -> bool {
     let mut left = change.entries().iter();

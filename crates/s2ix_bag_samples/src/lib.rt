@@ -11,6 +11,6 @@ mod lists;
 mod pairs;
 
 pub use bags::{LimitRow, WIDEST, bag_of, holds_pairs, limits_of};
-pub use changes::{are_changes, change_of, lists_entries};
+pub use changes::{are_changes, change_of, changes_of, lists_entries};
 pub use lists::{are_flat_pairs, are_labels, are_pairs, list_of};
 pub use pairs::{held_of, label_of, pair_of};
