@@ -8,9 +8,9 @@ use Rattle.s2ix_bag_pairs.specs.Collection.{Collection, IsCollectionFrom}
 use Rattle.s2ix_bag_pairs.specs.Pair.{rank_of}
 use Rattle.s2ix_bag_pairs.specs.Label.{value_of}
 use Rattle.s2ix_bag_pairs.specs.declared.pair.Held.{Held}
-use Rattle.s2ix_bag_pairs.proofs.Counts.{from_lower}
 use Rattle.s2ix_table_walk.proofs.Lists.{later_rank}
 use Rattle.s2ix_table.specs.Faces.{held_on}
+use Rattle.s2ix_table.proofs.HeldWhere.{where_rises}
 use Rattle.s2ix_table.proofs.Unchanged.{on_face, off_face}
 use Rattle.s2ix_table.specs.FaceSpans.{face_begin, AreOnFace}
 use Rattle.s2ix_table_walk.proofs.OnFaces.{six_faces}
@@ -86,13 +86,7 @@ made_up n (h ∷ hs) c =
 -- ---- what lies on one face
 
 pub held_rises : (face n : ℕ) (hs : Collection) → IsCollectionFrom n hs → IsCollectionFrom n (held_on face hs)
-held_rises face n [] c = tt
-held_rises face n (h ∷ hs) c =
-    let rest = held_rises face (rank_of h.pair + 1) hs c.2 in
-    elim (face_of h.pair.cell == face) as (λ b. IsCollectionFrom n (cond b (h ∷ held_on face hs) (held_on face hs))) [
-      | true ↦ (c.0, c.1, rest)
-      | false ↦ from_lower n (rank_of h.pair + 1) (held_on face hs) (omega (arith, c.0)) rest
-    ]
+held_rises face n hs c = where_rises (λ cell. face_of cell == face) n hs c
 
 pub held_few : (face : ℕ) (hs : Collection) → length (held_on face hs) ≤ length hs
 held_few face [] = omega arith

@@ -7,6 +7,8 @@ use Rattle.s2ix_table.specs.declared.offset.Offset.{Offset}
 use Rattle.s2ix_table.specs.FaceSpans.{no_table}
 use Rattle.s2ix_table.specs.Joined.{joined_ranges, AreNeighbours}
 use Rattle.s2ix_table.specs.Offsets.{places_of}
+use Rattle.s2ix_table.specs.Layered.{covered}
+use Rattle.s2ix_bag_pairs.specs.Collection.{Collection}
 use Rattle.s2ix_table.specs.Whole.{AreJoined}
 use Rattle.s2ix_table.proofs.Reading.{no_offset, many_places, place_of, placed, places_rise}
 
@@ -19,9 +21,9 @@ length_parts from (t ∷ ts) to are =
     let rest = length_parts t.to ts to are.2 in
     omega arith
 
-pub parts_begin : {parts : List SpanRanges} {starts : List ℕ} {offsets : List Offset} {faces : List ℕ} {count : ℕ}
-    → AreJoined parts starts offsets faces count → AreBorders (joined_ranges parts) (places_of offsets)
-parts_begin {parts} {starts} {offsets} {faces} {count} are =
+pub parts_begin : {parts : List SpanRanges} {heavy : Collection} {starts : List ℕ} {offsets : List Offset} {faces : List ℕ} {count : ℕ}
+    → AreJoined parts heavy starts offsets faces count → AreBorders (joined_ranges (covered heavy parts)) (places_of offsets)
+parts_begin {parts} {heavy} {starts} {offsets} {faces} {count} are =
     let many = many_places are in
     let short = length_parts 1 parts leaf_end are.neighbours in
     record {
@@ -39,8 +41,8 @@ parts_begin {parts} {starts} {offsets} {faces} {count} are =
           omega arith;
     }
 
-pub part_begins : {parts : List SpanRanges} {starts : List ℕ} {offsets : List Offset} {faces : List ℕ} {count : ℕ} (part : ℕ)
-    → AreJoined parts starts offsets faces count → part < length parts
-    → (range_at (joined_ranges parts) (slice_index_or (places_of offsets) part 0)).start ≡ (get_or offsets part no_offset).start
-part_begins {parts} {starts} {offsets} {faces} {count} part are lt =
-    ap (λ k. (range_at (joined_ranges parts) k).start) (place_of part 0 are lt) ∙ (placed part no_table no_offset are lt).start
+pub part_begins : {parts : List SpanRanges} {heavy : Collection} {starts : List ℕ} {offsets : List Offset} {faces : List ℕ} {count : ℕ} (part : ℕ)
+    → AreJoined parts heavy starts offsets faces count → part < length parts
+    → (range_at (joined_ranges (covered heavy parts)) (slice_index_or (places_of offsets) part 0)).start ≡ (get_or offsets part no_offset).start
+part_begins {parts} {heavy} {starts} {offsets} {faces} {count} part are lt =
+    ap (λ k. (range_at (joined_ranges (covered heavy parts)) k).start) (place_of part 0 are lt) ∙ (placed part no_table no_offset are lt).start

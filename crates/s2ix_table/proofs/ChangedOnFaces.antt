@@ -1,74 +1,26 @@
 -- What a change makes of the pairs on a face, its entries there make of these pairs alone.
-use Rattle.std.proofs.Common.{◌≡◌, ℕ, zero, suc, ◌+◌, ◌<◌, ◌≤◌, ◌==◌, inl, inr, List, [], ◌∷◌, ◌++◌, length, take, drop, get_or, refl, sym, ap, ◌∙◌, ⊎_elim, arith, eq-eqb, ne_eqb, Contains, subst, append-nil}
-use Rattle.std.proofs.lemmas.Bool.{cases_eq, cases_lt, cond-true, cond-false}
+use Rattle.std.proofs.Common.{◌≡◌, ℕ, zero, suc, ◌+◌, ◌<◌, ◌≤◌, ◌==◌, inl, inr, List, [], ◌∷◌, ◌++◌, length, take, drop, get_or, refl, sym, ap, ◌∙◌, arith, eq-eqb, ne_eqb, Contains, subst, append-nil}
+use Rattle.std.proofs.lemmas.Bool.{cond-true, cond-false}
 use Rattle.std.proofs.lemmas.List.{take-append-drop, take_more}
 use Rattle.std.proofs.lemmas.List.Elements.{filter-append, Contains-append_cases}
 use Rattle.s2id_core.specs.CellId.{raw_of, face_of}
 use Rattle.s2id_core.proofs.Lists.{in_tail, at_head, none_in_nil, cons_cases}
 use Rattle.s2ix_bag_pairs.specs.Change.{IsChangeList, IsChangeListFrom, changed}
-use Rattle.s2ix_bag_pairs.specs.Collection.{Collection, IsCollectionFrom, held_with, set_count}
+use Rattle.s2ix_bag_pairs.specs.Collection.{Collection, IsCollection}
 use Rattle.s2ix_bag_pairs.specs.Label.{value_of}
 use Rattle.s2ix_bag_pairs.specs.Pair.{rank_of}
 use Rattle.s2ix_bag_pairs.specs.declared.pair.Entry.{Entry}
-use Rattle.s2ix_bag_pairs.specs.declared.pair.Pair.{Pair}
 use Rattle.s2ix_bag_pairs.proofs.Changes.{change_lower}
-use Rattle.s2ix_bag_pairs.proofs.Collections.{set_keeps}
-use Rattle.s2ix_bag_pairs.proofs.Counts.{set_before, set_at, set_after}
-use Rattle.s2ix_bag_pairs.proofs.Pairs.{same_pair}
 use Rattle.s2ix_table.specs.Faces.{held_on, entries_on}
-use Rattle.s2ix_table.proofs.AllFaces.{face_rises, held_rises, raw_rises}
+use Rattle.s2ix_table.proofs.AllFaces.{face_rises, raw_rises}
+use Rattle.s2ix_table.proofs.HeldWhere.{changed_where}
 use Rattle.s2ix_table.proofs.InSpans.{raw_on_face}
-use Rattle.s2ix_table.proofs.Unchanged.{on_face, off_face, set_stays}
-
--- ---- one pair of the face
-
-with_goes : (face : ℕ) (p : Pair) (n : ℕ) (hs : Collection) → face_of p.cell ≡ face → held_on face (held_with p n hs) ≡ held_with p n (held_on face hs)
-with_goes face p zero hs e = refl
-with_goes face p (suc n) hs e = on_face face (record { pair = p; count = suc n }) hs e
-
--- where no pair is by a rank, the pair of that rank comes first
-set_first : (p : Pair) (n : ℕ) (hs : Collection) → IsCollectionFrom (rank_of p + 1) hs → set_count p n hs ≡ held_with p n hs
-set_first p n [] c = refl
-set_first p n (h ∷ hs) c = set_before p n h hs (omega (arith, c.0))
-
-set_goes : (face : ℕ) (p : Pair) (n m : ℕ) (hs : Collection) → IsCollectionFrom m hs → face_of p.cell ≡ face
-    → held_on face (set_count p n hs) ≡ set_count p n (held_on face hs)
-set_goes face p n m [] c e = with_goes face p n [] e
-set_goes face p n m (h ∷ hs) c e =
-    let On : Collection → Collection = held_on face in
-    ⊎_elim
-    (λ lt.
-    let above : IsCollectionFrom (rank_of p + 1) (h ∷ hs) = (omega (arith, lt), c.1, c.2) in
-    ap On (set_before p n h hs lt) ∙ with_goes face p n (h ∷ hs) e ∙ sym (set_first p n (On (h ∷ hs)) (held_rises face (rank_of p + 1) (h ∷ hs) above)))
-    (λ le. ⊎_elim
-    (λ same.
-    let is : face_of h.pair.cell ≡ face = ap (λ (q : Pair). face_of q.cell) (sym (same_pair p h.pair same)) ∙ e in
-    ap On (set_at p n h hs same) ∙ with_goes face p n hs e ∙ sym (set_at p n h (On hs) same) ∙ ap (set_count p n) (sym (on_face face h hs is)))
-    (λ apart.
-    let more : rank_of h.pair < rank_of p = omega (arith, le, apart) in
-    let rest = set_goes face p n (rank_of h.pair + 1) hs c.2 e in
-    ap On (set_after p n h hs more)
-    ∙ ⊎_elim
-    (λ is. on_face face h (set_count p n hs) is ∙ ap (λ x. h ∷ x) rest ∙ sym (set_after p n h (On hs) more) ∙ ap (set_count p n) (sym (on_face face h hs is)))
-    (λ off. off_face face h (set_count p n hs) off ∙ rest ∙ ap (set_count p n) (sym (off_face face h hs off)))
-    (cases_eq (face_of h.pair.cell) face))
-    (cases_eq (rank_of p) (rank_of h.pair)))
-    (cases_lt (rank_of p) (rank_of h.pair))
 
 -- ---- a whole change
 
-pub changed_on_face : (face : ℕ) (hs : Collection) (es : List Entry) → IsCollectionFrom 0 hs
+pub changed_on_face : (face : ℕ) (hs : Collection) (es : List Entry) → IsCollection hs
     → held_on face (changed hs es) ≡ changed (held_on face hs) (entries_on face es)
-changed_on_face face hs [] c = refl
-changed_on_face face hs (e ∷ es) c =
-    let next = set_count e.pair e.after hs in
-    let rest = changed_on_face face next es (set_keeps e.pair e.after hs c) in
-    ⊎_elim
-    (λ is. rest ∙ ap (λ x. changed x (entries_on face es)) (set_goes face e.pair e.after 0 hs c is)
-    ∙ ap (changed (held_on face hs)) (sym (cond-true _ (e ∷ entries_on face es) (entries_on face es) (eq-eqb _ _ is))))
-    (λ off. rest ∙ ap (λ x. changed x (entries_on face es)) (set_stays face e.pair e.after hs off)
-    ∙ ap (changed (held_on face hs)) (sym (cond-false _ (e ∷ entries_on face es) (entries_on face es) (ne_eqb _ _ off))))
-    (cases_eq (face_of e.pair.cell) face)
+changed_on_face face hs es c = changed_where (λ cell. face_of cell == face) hs es c
 
 -- ---- entries rise from face to face
 

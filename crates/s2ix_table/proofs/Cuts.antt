@@ -117,7 +117,7 @@ neighbours_append from between to (x ∷ xs) ys a b = (a.0, a.1, neighbours_appe
 
 -- ---- their cells
 
-neighbours_rise : (from : ℕ) (parts : List SpanRanges) (to : ℕ) → AreNeighbours from parts to → from ≤ to
+pub neighbours_rise : (from : ℕ) (parts : List SpanRanges) (to : ℕ) → AreNeighbours from parts to → from ≤ to
 neighbours_rise from [] to are = omega (arith, are)
 neighbours_rise from (t ∷ ts) to are =
     let e = are.0 in let some = are.1.within.some in

@@ -1,8 +1,8 @@
 -- Joined ranges, place by place.
-use Rattle.std.proofs.Common.{◌≡◌, ◌&&◌, ℕ, zero, suc, ◌+◌, ◌<◌, true, false, cond, List, [], ◌∷◌, length, refl, sym, ◌∙◌, ap, arith, subst}
+use Rattle.std.proofs.Common.{◌≡◌, ℕ, zero, suc, ◌+◌, ◌<◌, true, false, cond, List, [], ◌∷◌, length, refl, sym, ◌∙◌, ap, arith, subst}
 use Rattle.std.proofs.lemmas.Bool.{cond-true, cond-false}
 use Rattle.s2ix_table_walk.specs.Table.{Range, range_at}
-use Rattle.s2ix_table.specs.Joined.{is_nil, put_before}
+use Rattle.s2ix_table.specs.Joined.{is_same, put_before}
 
 -- ---- one range at the cut
 
@@ -37,7 +37,7 @@ one_first r s ss = record {
     back (suc k) some lt = at_plus (record { start = r.start; limit = s.limit; contents = r.contents } ∷ ss) (suc k)
 
 pub joined_one : (xs ys : List Range) (p : ℕ) → length xs ≡ p + 1 → 0 < length ys
-    → (is_nil (range_at xs p).contents && is_nil (range_at ys 0).contents) ≡ true → IsOne xs ys p (put_before xs ys)
+    → is_same (range_at xs p).contents (range_at ys 0).contents ≡ true → IsOne xs ys p (put_before xs ys)
 joined_one [] ys p e some both = absurd (omega arith)
 joined_one (r ∷ []) [] p e some both = absurd (omega arith)
 joined_one (r ∷ []) (s ∷ ss) zero e some both =
@@ -80,7 +80,7 @@ two_first r s ss = record {
     front (suc k) lt = absurd (omega arith)
 
 pub joined_two : (xs ys : List Range) (p : ℕ) → length xs ≡ p + 1 → 0 < length ys
-    → (is_nil (range_at xs p).contents && is_nil (range_at ys 0).contents) ≡ false → IsTwo xs ys (put_before xs ys)
+    → is_same (range_at xs p).contents (range_at ys 0).contents ≡ false → IsTwo xs ys (put_before xs ys)
 joined_two [] ys p e some apart = absurd (omega arith)
 joined_two (r ∷ []) [] p e some apart = absurd (omega arith)
 joined_two (r ∷ []) (s ∷ ss) zero e some apart =
@@ -118,7 +118,7 @@ pub joined_first : (xs ys : List Range) → 0 < length xs → BeginAlike xs (put
 joined_first [] ys some = absurd (omega arith)
 joined_first (r ∷ []) [] some = record { some = omega arith; start = refl; contents = refl }
 joined_first (r ∷ []) (s ∷ ss) some =
-    elim (is_nil r.contents && is_nil s.contents) as (λ b. BeginAlike (r ∷ []) (cond b (record { start = r.start; limit = s.limit; contents = r.contents } ∷ ss) (r ∷ s ∷ ss))) [
+    elim (is_same r.contents s.contents) as (λ b. BeginAlike (r ∷ []) (cond b (record { start = r.start; limit = s.limit; contents = r.contents } ∷ ss) (r ∷ s ∷ ss))) [
       | true ↦ record { some = omega arith; start = refl; contents = refl }
       | false ↦ record { some = omega arith; start = refl; contents = refl }
     ]

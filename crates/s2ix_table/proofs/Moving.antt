@@ -5,12 +5,13 @@ use Rattle.std.proofs.lemmas.List.{drop-drop, drop-set-lt, get_or-drop, get_or-s
 use Rattle.std.proofs.lemmas.Grind.{take-set_at}
 use Rattle.std.proofs.Math.Seq.{take-suc}
 use Rattle.std.specs.declared.sync.Arc.{Arc}
+use Rattle.s2ix_bag_pairs.specs.Collection.{Collection}
 use Rattle.s2ix_table_walk.specs.Table.{Range, range_at, leaf_end}
 use Rattle.s2ix_table_spans.specs.SpanTable.{SpanRanges}
 use Rattle.s2ix_table.specs.declared.offset.Offset.{Offset}
 use Rattle.s2ix_table.specs.FaceSpans.{no_table, spans_of, table_of}
-use Rattle.s2ix_table.specs.Joined.{held_in, AreNeighbours}
 use Rattle.s2ix_table.specs.Offsets.{is_joined, last_start, moved, offset_after, offset_at, offsets_from, offsets_of, AreMovable, AreOffsetsFrom}
+use Rattle.s2ix_table.proofs.Neighbours.{AreOverSpans}
 use Rattle.s2ix_table.proofs.Offsets.{length_offsets, offset_next}
 use Rattle.s2ix_table.proofs.OneFace.{first_alone}
 use Rattle.s2ix_table.proofs.Reading.{first_offset, no_offset}
@@ -185,14 +186,14 @@ after_read parts last offset n d e one next some lt is_one is_next is =
     (seen_at parts n e next lt is_next)
 
 -- the last right place is not too great
-pub last_few : (parts : List SpanRanges) (os : List Offset) (n : ℕ) → AreNeighbours 1 parts leaf_end → length (held_in parts) ≤ 1000000
+pub last_few : (held : Collection) (parts : List SpanRanges) (os : List Offset) (n : ℕ) → AreOverSpans held 1 parts leaf_end → length held ≤ 1000000
     → 0 < n → n ≤ length parts → take n os ≡ take n (offsets_of parts)
     → (offset_at os (n - 1)).place + length (table_of parts (n - 1)).ranges ≤ 2000001
-last_few parts os n are few some le before =
+last_few held parts os n are few some le before =
     let last = sym (get_or-take n os (n - 1) no_offset (omega arith)) ∙ ap (λ ps. get_or ps (n - 1) no_offset) before
     ∙ get_or-take n (offsets_of parts) (n - 1) no_offset (omega arith) in
     let place = ap (λ (o : Offset). o.place) last in
-    let ends = ends_few parts (n - 1) are few (omega arith) in
+    let ends = ends_few held parts (n - 1) are few (omega arith) in
     omega (arith, place, ends)
 
 first_is : (parts : List SpanRanges) → 0 < length parts → offset_at (offsets_of parts) 0 ≡ first_offset
@@ -249,15 +250,15 @@ counted_one parts os offset n end some lt many before behind is =
     }
 
 -- all behind are moved as far as this one
-pub moved_right : (parts : List SpanRanges) (os : List Offset) (offset : Offset) (n end : ℕ) → AreNeighbours 1 parts leaf_end
-    → length (held_in parts) ≤ 1000000 → 0 < n → n < length parts → length os ≡ length parts
+pub moved_right : (held : Collection) (parts : List SpanRanges) (os : List Offset) (offset : Offset) (n end : ℕ) → AreOverSpans held 1 parts leaf_end
+    → length held ≤ 1000000 → 0 < n → n < length parts → length os ≡ length parts
     → take n os ≡ take n (offsets_of parts) → AreOffsetsFrom (max n end) os parts → end ≤ n
     → offset ≡ offset_after (offset_at os (n - 1)) (table_of parts (n - 1)).ranges (table_of parts n).ranges
     → offset.start ≡ (offset_at os n).start
     → AreMovable (offset_at os n).place offset.place (drop n os)
     × (take n os ++ map (moved (offset_at os n).place offset.place) (drop n os) ≡ offsets_of parts)
 unfolding offset_with
-moved_right parts os offset n end are few some lt many before behind le is same =
+moved_right held parts os offset n end are few some lt many before behind le is same =
     let right = next_right parts os offset n some lt many before is in
     let old = offset_at os n in
     let here : max n end ≡ n = omega arith in
@@ -273,7 +274,7 @@ moved_right parts os offset n end are few some lt many before behind le is same 
     let left = length-drop n (offsets_of parts) in
     let few_moved = few_all (drop n (offsets_of parts)) (λ i less.
     let at = get_or-drop n (offsets_of parts) i no_offset in
-    let ends = ends_few parts (n + i) are few (omega arith) in
+    let ends = ends_few held parts (n + i) are few (omega arith) in
     let place_is = ap (λ (o : Offset). o.place) at in
     omega (arith, place_is, ends)) in
     let movable = from_movable old.place offset.place old (drop n parts) (omega arith)

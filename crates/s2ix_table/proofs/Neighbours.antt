@@ -1,13 +1,16 @@
 -- The table of neighbouring spans.
-use Rattle.std.proofs.Common.{ℕ, zero, suc, ◌<◌, inl, inr, List, [], ◌∷◌, length, get_or, arith, subst}
+use Rattle.std.proofs.Common.{◌≡◌, ℕ, zero, suc, ◌%◌, ◌<◌, ◌≤◌, inl, inr, List, [], ◌∷◌, ◌++◌, length, get_or, append_assoc, ◌∙◌, arith, Contains, subst}
 use Rattle.std.proofs.lemmas.List.Elements.{Contains-append_cases}
+use Rattle.s2id_core.specs.CellId.{end_of}
 use Rattle.s2id_core.proofs.Lists.{none_in_nil}
-use Rattle.s2ix_bag_pairs.specs.Collection.{IsCollection}
-use Rattle.s2ix_table_walk.specs.Table.{IsTableOver}
-use Rattle.s2ix_table_walk.proofs.Tables.{IsTable, table_from_places, places_from_table}
+use Rattle.s2ix_bag_pairs.specs.Collection.{Collection, IsCollection}
+use Rattle.s2ix_bag_pairs.specs.declared.pair.Held.{Held}
+use Rattle.s2ix_table_walk.specs.Contents.{contents_at}
+use Rattle.s2ix_table_walk.specs.Table.{Range, IsTableOver}
+use Rattle.s2ix_table_walk.proofs.Tables.{IsTable, table_rises, table_from_places, places_from_table}
 use Rattle.s2ix_table_spans.specs.SpanTable.{SpanRanges, IsSpanTable}
 use Rattle.s2ix_table.specs.Joined.{held_in, joined_ranges, AreNeighbours}
-use Rattle.s2ix_table.proofs.Appended.{BeginFrom, both_rise}
+use Rattle.s2ix_table.proofs.Appended.{EndBy, BeginFrom, both_rise, contents_front, contents_back}
 use Rattle.s2ix_table.proofs.Joining.{join_tables}
 
 pub all_begin : (from : ℕ) (tables : List SpanRanges) (to : ℕ) → AreNeighbours from tables to → BeginFrom (held_in tables) from
@@ -28,21 +31,86 @@ all_rise from [] to are = tt
 all_rise from (t ∷ ts) to are =
     both_rise t.to t.held (held_in ts) are.1.within.ends (all_begin t.to ts to are.2) are.1.rises (all_rise t.to ts to are.2)
 
-pub all_joined : (from : ℕ) (tables : List SpanRanges) (to : ℕ) → AreNeighbours from tables to
-    → IsTable (held_in tables) from (joined_ranges tables) to
+-- ---- tables of what one collection has over their spans
+
+-- the ranges of what a collection has over a span
+pub record IsOverSpan (held : Collection) (span : SpanRanges) : Type 0 where
+  pub some : span.from < span.to
+  pub table : IsTableOver held span.from span.to span.ranges
+
+-- the same of spans that follow one another, from one leaf number up to another
+abbrev pub AreOverSpans : Collection → ℕ → List SpanRanges → ℕ → Type 0
+AreOverSpans held from [] to = from ≡ to
+AreOverSpans held from (t ∷ ts) to = (t.from ≡ from) × IsOverSpan held t × AreOverSpans held t.to ts to
+
+pub all_joined : (held : Collection) (from : ℕ) (tables : List SpanRanges) (to : ℕ) → AreOverSpans held from tables to
+    → IsTable held from (joined_ranges tables) to
 unfolding joined_ranges
-all_joined from [] to are = are
-all_joined from (t ∷ ts) to are =
-    let own = subst (λ n. IsTable t.held n t.ranges t.to) are.0 (table_from_places t.held t.from t.to t.ranges are.1.table) in
-    let begin = all_begin t.to ts to are.2 in
-    let rest = all_joined t.to ts to are.2 in
-    join_tables t.held (held_in ts) from t.to to t.ranges (joined_ranges ts) are.1.within.ends begin own rest
+all_joined held from [] to are = are
+all_joined held from (t ∷ ts) to are =
+    let own = subst (λ n. IsTable held n t.ranges t.to) are.0 (table_from_places held t.from t.to t.ranges are.1.table) in
+    join_tables held from t.to to t.ranges (joined_ranges ts) own (all_joined held t.to ts to are.2)
+
+-- their joined ranges are a table over them all
+pub table_over_spans : (held : Collection) (from : ℕ) (tables : List SpanRanges) (to : ℕ) → from < to → AreOverSpans held from tables to
+    → IsTableOver held from to (joined_ranges tables)
+table_over_spans held from tables to lt are =
+    places_from_table held from to (joined_ranges tables) lt (all_joined held from tables to are)
+
+-- ---- what neighbours hold, over each of their spans
+
+-- a table of one collection is that of another one that has the same over its span
+pub same_over : (hs ks : Collection) (from : ℕ) (ranges : List Range) (to : ℕ)
+    → ((q : ℕ) → q % 2 ≡ 1 → from ≤ q → q < to → contents_at q ks ≡ contents_at q hs) → IsTable hs from ranges to → IsTable ks from ranges to
+same_over hs ks from [] to same t = t
+same_over hs ks from (r ∷ rs) to same t =
+    let le = table_rises hs r.limit rs to t.2 in
+    let rises = t.0.rises in (
+      record { start = t.0.start; odd = t.0.odd; rises = t.0.rises; shared = λ q odd ge lt. same q odd ge (omega arith) ∙ t.0.shared q odd ge lt },
+      t.1,
+      same_over hs ks r.limit rs to (λ q odd ge lt. same q odd (omega arith) lt) t.2,
+    )
+
+over_own : (hs : Collection) (t : SpanRanges) (ks : Collection) → IsSpanTable t → EndBy hs t.from → BeginFrom ks t.to
+    → IsOverSpan (hs ++ (t.held ++ ks)) t
+over_own hs t ks is end begin =
+    let some = is.within.some in
+    record {
+      some = some;
+      table = places_from_table (hs ++ (t.held ++ ks)) t.from t.to t.ranges some
+          (same_over t.held (hs ++ (t.held ++ ks)) t.from t.ranges t.to
+          (λ q odd ge lt. contents_back q t.from hs (t.held ++ ks) ge end ∙ contents_front q t.to t.held ks lt begin)
+          (table_from_places t.held t.from t.to t.ranges is.table));
+    }
+
+pub end_later : (hs own : Collection) (from to : ℕ) → from ≤ to → EndBy hs from → ((h : Held) → Contains own h → end_of h.pair.cell ≤ to)
+    → EndBy (hs ++ own) to
+end_later hs own from to le end ends h held =
+    elim (Contains-append_cases hs own h held) [
+      | inl before ↦ (let by = end h before in omega arith)
+      | inr in_own ↦ ends h in_own
+    ]
+
+over_after : (hs : Collection) (from : ℕ) (tables : List SpanRanges) (to : ℕ) → EndBy hs from → AreNeighbours from tables to
+    → AreOverSpans (hs ++ held_in tables) from tables to
+over_after hs from [] to end are = are
+over_after hs from (t ∷ ts) to end are =
+    let e = are.0 in
+    let some = are.1.within.some in
+    let here : EndBy hs t.from = λ h held. let by = end h held in omega arith in
+    let rest = over_after (hs ++ t.held) t.to ts to (end_later hs t.held from t.to (omega arith) end are.1.within.ends) are.2 in (
+      are.0,
+      over_own hs t (held_in ts) are.1 here (all_begin t.to ts to are.2),
+      subst (λ ks. AreOverSpans ks t.to ts to) (append_assoc hs t.held (held_in ts)) rest,
+    )
+
+pub over_spans : (from : ℕ) (tables : List SpanRanges) (to : ℕ) → AreNeighbours from tables to → AreOverSpans (held_in tables) from tables to
+over_spans from tables to are = over_after [] from tables to (λ h held. absurd (none_in_nil h held)) are
 
 -- the joined ranges of neighbours are a table over them all
 pub joined_table : (from : ℕ) (tables : List SpanRanges) (to : ℕ) → from < to → AreNeighbours from tables to
     → IsTableOver (held_in tables) from to (joined_ranges tables)
-joined_table from tables to lt are =
-    places_from_table (held_in tables) from to (joined_ranges tables) lt (all_joined from tables to are)
+joined_table from tables to lt are = table_over_spans (held_in tables) from tables to lt (over_spans from tables to are)
 
 -- each of them has its ranges
 pub span_known : (from : ℕ) (tables : List SpanRanges) (to i : ℕ) (d : SpanRanges) → AreNeighbours from tables to → i < length tables

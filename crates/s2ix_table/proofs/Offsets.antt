@@ -1,14 +1,15 @@
 -- The offsets of neighbouring tables.
-use Rattle.std.proofs.Common.{◌≡◌, ◌&&◌, ℕ, zero, suc, ◌+◌, ◌-◌, ◌==◌, ◌<◌, ◌≤◌, inl, inr, true, false, List, [], ◌∷◌, length, get_or, slice_index_or, refl, sym, ◌∙◌, ap, arith, subst}
-use Rattle.std.proofs.lemmas.Bool.{cases_Bool, cases_eq, and_parts, cond-true, cond-false}
+use Rattle.std.proofs.Common.{◌≡◌, ℕ, zero, suc, ◌+◌, ◌-◌, ◌==◌, ◌<◌, ◌≤◌, inl, inr, true, false, List, [], ◌∷◌, length, get_or, slice_index_or, refl, sym, ◌∙◌, ap, arith, subst}
+use Rattle.std.proofs.lemmas.Bool.{cases_Bool, cases_eq, cond-true, cond-false}
 use Rattle.std.proofs.lemmas.Bool.Decides.{nat_tests}
+use Rattle.s2ix_bag_pairs.specs.Collection.{Collection}
 use Rattle.s2ix_table_walk.specs.Table.{Range, range_at}
 use Rattle.s2ix_table_spans.specs.SpanTable.{SpanRanges}
 use Rattle.s2ix_table.specs.declared.offset.Offset.{Offset}
-use Rattle.s2ix_table.specs.Joined.{is_nil, put_before, joined_ranges, AreNeighbours}
+use Rattle.s2ix_table.specs.Joined.{is_same, put_before, joined_ranges}
 use Rattle.s2ix_table.specs.Offsets.{is_joined, last_start, offset_after, offsets_from, offsets_of, places_of}
-use Rattle.s2ix_table.proofs.Joining.{nil_is}
-use Rattle.s2ix_table.proofs.Neighbours.{joined_table}
+use Rattle.s2ix_table.proofs.Joining.{same_is}
+use Rattle.s2ix_table.proofs.Neighbours.{AreOverSpans, table_over_spans}
 use Rattle.s2ix_table.proofs.JoinedPlaces.{IsOne, BeginAlike, joined_one, joined_two, joined_nil, joined_first}
 use Rattle.s2ix_table.proofs.Placing.{IsOffset, IsPart, IsCut, last_part, two_part, two_next, one_part, one_next, one_start}
 
@@ -53,17 +54,15 @@ next_step whole xs ys us offset p cut begin is =
     let last = cut.last_is in
     let some = cut.some in
     let e : length xs - 1 ≡ p = omega arith in
-    let first : is_nil (range_at ys 0).contents ≡ is_nil (range_at us 0).contents = ap is_nil begin.contents in
-    let test : is_joined xs us ≡ (is_nil (range_at xs p).contents && is_nil (range_at ys 0).contents) =
-    ap (λ n. is_nil (range_at xs n).contents && is_nil (range_at us 0).contents) e ∙ ap (λ b. is_nil (range_at xs p).contents && b) (sym first) in
+    let test : is_joined xs us ≡ is_same (range_at xs p).contents (range_at ys 0).contents =
+    ap (λ n. is_same (range_at xs n).contents (range_at us 0).contents) e ∙ ap (is_same (range_at xs p).contents) (sym begin.contents) in
     let joined_offset : Offset = offset_with (offset.place + (length xs - 1)) (last_start offset xs) in
     let apart_offset : Offset = offset_with (offset.place + length xs) (range_at us 0).start in
     elim (cases_Bool (is_joined xs us)) [
       | inl t ↦
           (let both = sym test ∙ t in
           let one = joined_one xs ys p last some both in
-          let nils = and_parts (is_nil (range_at xs p).contents) (is_nil (range_at ys 0).contents) both in
-          let same = nil_is (range_at xs p).contents nils.0 ∙ sym (nil_is (range_at ys 0).contents nils.1) in
+          let same = same_is (range_at xs p).contents (range_at ys 0).contents both in
           let begins = last_begins whole xs ys (put_before xs ys) offset p cut one is in
           let is_next : offset_after offset xs us ≡ offset_with (offset.place + p) (last_start offset xs) =
           cond-true (is_joined xs us) joined_offset apart_offset t ∙ ap (λ n. offset_with (offset.place + n) (last_start offset xs)) e in
@@ -87,23 +86,24 @@ pub begin_alike : (u : SpanRanges) (us : List SpanRanges) → 0 < length u.range
 unfolding joined_ranges
 begin_alike u us some = joined_first u.ranges (joined_ranges us) some
 
-neighbours_cut : (from : ℕ) (t u : SpanRanges) (us : List SpanRanges) (to p : ℕ) → AreNeighbours from (t ∷ u ∷ us) to
+spans_cut : (held : Collection) (from : ℕ) (t u : SpanRanges) (us : List SpanRanges) (to p : ℕ) → AreOverSpans held from (t ∷ u ∷ us) to
     → p + 1 ≡ length t.ranges → t.to < to → IsCut t.ranges (joined_ranges (u ∷ us)) p
-neighbours_cut from t u us to p are last more =
+spans_cut held from t u us to p are last more =
     let own = are.1.table in
-    let rest = joined_table t.to (u ∷ us) to more are.2 in
+    let rest = table_over_spans held t.to (u ∷ us) to more are.2 in
     let begin = rest.first in
     let end = own.last p last in
     let rises = own.rises p (omega arith) in
     let after = rest.rises 0 rest.some in
     record { last_is = omega arith; some = rest.some; start = omega arith; limit = omega arith }
 
-spans_rise : (from : ℕ) (tables : List SpanRanges) (to : ℕ) → AreNeighbours from tables to → 0 < length tables → from < to
-spans_rise from [] to are some = absurd (omega arith)
-spans_rise from (t ∷ []) to are some = let a = are.0 in let b = are.1.within.some in let c = are.2 in omega arith
-spans_rise from (t ∷ u ∷ us) to are some =
-    let a = are.0 in let b = are.1.within.some in
-    let c = spans_rise t.to (u ∷ us) to are.2 (omega arith) in
+spans_rise : (held : Collection) (from : ℕ) (tables : List SpanRanges) (to : ℕ) → AreOverSpans held from tables to → 0 < length tables
+    → from < to
+spans_rise held from [] to are some = absurd (omega arith)
+spans_rise held from (t ∷ []) to are some = let a = are.0 in let b = are.1.some in let c = are.2 in omega arith
+spans_rise held from (t ∷ u ∷ us) to are some =
+    let a = are.0 in let b = are.1.some in
+    let c = spans_rise held t.to (u ∷ us) to are.2 (omega arith) in
     omega arith
 
 abbrev pub high_of : List Offset → ℕ → ℕ → ℕ
@@ -114,37 +114,37 @@ head_place : (offset : Offset) (u : SpanRanges) (us : List SpanRanges) (d : ℕ)
 head_place offset u [] d = refl
 head_place offset u (t ∷ ts) d = refl
 
-step : (whole : List Range) (from : ℕ) (t u : SpanRanges) (us : List SpanRanges) (to : ℕ) (offset : Offset) → AreNeighbours from (t ∷ u ∷ us) to
-    → IsOffset whole (joined_ranges (t ∷ u ∷ us)) offset
+step : (held : Collection) (whole : List Range) (from : ℕ) (t u : SpanRanges) (us : List SpanRanges) (to : ℕ) (offset : Offset)
+    → AreOverSpans held from (t ∷ u ∷ us) to → IsOffset whole (joined_ranges (t ∷ u ∷ us)) offset
     → IsStep whole t.ranges (joined_ranges (u ∷ us)) offset (offset_after offset t.ranges u.ranges)
 unfolding joined_ranges
-step whole from t u us to offset are is =
+step held whole from t u us to offset are is =
     let some = are.1.table.some in
     let p : ℕ = length t.ranges - 1 in
     let last : p + 1 ≡ length t.ranges = omega arith in
-    let more = spans_rise t.to (u ∷ us) to are.2 (omega arith) in
-    next_step whole t.ranges (joined_ranges (u ∷ us)) u.ranges offset p (neighbours_cut from t u us to p are last more) (begin_alike u us are.2.1.table.some) is
+    let more = spans_rise held t.to (u ∷ us) to are.2 (omega arith) in
+    next_step whole t.ranges (joined_ranges (u ∷ us)) u.ranges offset p (spans_cut held from t u us to p are last more) (begin_alike u us are.2.1.table.some) is
 
 -- each table stands at its offset
-pub part_at : (whole : List Range) (from : ℕ) (tables : List SpanRanges) (to : ℕ) (offset : Offset) (i : ℕ) (d : SpanRanges) (e : Offset)
-    → AreNeighbours from tables to → IsOffset whole (joined_ranges tables) offset → i < length tables
+part_at : (held : Collection) (whole : List Range) (from : ℕ) (tables : List SpanRanges) (to : ℕ) (offset : Offset) (i : ℕ) (d : SpanRanges) (e : Offset)
+    → AreOverSpans held from tables to → IsOffset whole (joined_ranges tables) offset → i < length tables
     → IsPart whole (get_or tables i d).ranges (get_or (offsets_from offset tables) i e) (high_of (offsets_from offset tables) i (length whole))
 unfolding joined_ranges
-part_at whole from [] to offset i d e are is lt = absurd (omega arith)
-part_at whole from (t ∷ []) to offset zero d e are is lt =
+part_at held whole from [] to offset i d e are is lt = absurd (omega arith)
+part_at held whole from (t ∷ []) to offset zero d e are is lt =
     last_part whole t.ranges offset are.1.table.some (subst (λ rs. IsOffset whole rs offset) (joined_nil t.ranges) is)
-part_at whole from (t ∷ []) to offset (suc i) d e are is lt = absurd (omega arith)
-part_at whole from (t ∷ u ∷ us) to offset zero d e are is lt =
+part_at held whole from (t ∷ []) to offset (suc i) d e are is lt = absurd (omega arith)
+part_at held whole from (t ∷ u ∷ us) to offset zero d e are is lt =
     let next = offset_after offset t.ranges u.ranges in
-    subst (IsPart whole t.ranges offset) (sym (head_place next u us (length whole))) (step whole from t u us to offset are is).part
-part_at whole from (t ∷ u ∷ us) to offset (suc i) d e are is lt =
-    part_at whole t.to (u ∷ us) to (offset_after offset t.ranges u.ranges) i d e are.2 (step whole from t u us to offset are is).rest (omega arith)
+    subst (IsPart whole t.ranges offset) (sym (head_place next u us (length whole))) (step held whole from t u us to offset are is).part
+part_at held whole from (t ∷ u ∷ us) to offset (suc i) d e are is lt =
+    part_at held whole t.to (u ∷ us) to (offset_after offset t.ranges u.ranges) i d e are.2 (step held whole from t u us to offset are is).rest (omega arith)
 
 -- all ranges stand at the first offset
-pub first_placed : (tables : List SpanRanges) (to : ℕ) → AreNeighbours 1 tables to → 0 < length tables
+first_placed : (held : Collection) (tables : List SpanRanges) (to : ℕ) → AreOverSpans held 1 tables to → 0 < length tables
     → IsOffset (joined_ranges tables) (joined_ranges tables) (record { place = 0; start = 1 })
-first_placed tables to are some =
-    let t = joined_table 1 tables to (spans_rise 1 tables to are some) are in
+first_placed held tables to are some =
+    let t = table_over_spans held 1 tables to (spans_rise held 1 tables to are some) are in
     let first = t.first in
     record {
       length_is = omega arith;
@@ -155,10 +155,10 @@ first_placed tables to are some =
       later = λ k some lt. let e : 0 + k ≡ k = omega arith in ap (range_at (joined_ranges tables)) e;
     }
 
-pub offsets_fit : (tables : List SpanRanges) (to i : ℕ) (d : SpanRanges) (e : Offset) → AreNeighbours 1 tables to → i < length tables
+pub offsets_fit : (held : Collection) (tables : List SpanRanges) (to i : ℕ) (d : SpanRanges) (e : Offset) → AreOverSpans held 1 tables to → i < length tables
     → IsPart (joined_ranges tables) (get_or tables i d).ranges (get_or (offsets_of tables) i e) (high_of (offsets_of tables) i (length (joined_ranges tables)))
-offsets_fit tables to i d e are lt =
-    part_at (joined_ranges tables) 1 tables to (record { place = 0; start = 1 }) i d e are (first_placed tables to are (omega arith)) lt
+offsets_fit held tables to i d e are lt =
+    part_at held (joined_ranges tables) 1 tables to (record { place = 0; start = 1 }) i d e are (first_placed held tables to are (omega arith)) lt
 
 -- ---- offsets as a list
 

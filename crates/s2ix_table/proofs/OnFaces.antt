@@ -23,7 +23,7 @@ same_face : (f g first end : ℕ) → face_begin f ≤ first → end ≤ face_be
     → end ≤ face_begin (g + 1) → g ≡ f
 same_face f g first end a b c d e = omega arith
 
-all_kept : (face : ℕ) (hs : Collection) → BeginFrom hs (face_begin face) → EndBy hs (face_begin (face + 1)) → held_on face hs ≡ hs
+pub all_kept : (face : ℕ) (hs : Collection) → BeginFrom hs (face_begin face) → EndBy hs (face_begin (face + 1)) → held_on face hs ≡ hs
 all_kept face [] begin end = refl
 all_kept face (h ∷ hs) begin end =
     let rises = (span_of h).rises in
@@ -37,7 +37,7 @@ all_kept face (h ∷ hs) begin end =
 before_face : (f first end : ℕ) → face_begin f ≤ first → first < end → end ≤ face_begin f → ⊥
 before_face f first end a b c = omega arith
 
-none_before : (face : ℕ) (hs : Collection) → EndBy hs (face_begin face) → held_on face hs ≡ []
+pub none_before : (face : ℕ) (hs : Collection) → EndBy hs (face_begin face) → held_on face hs ≡ []
 none_before face [] end = refl
 none_before face (h ∷ hs) end =
     let rises = (span_of h).rises in
@@ -47,7 +47,7 @@ none_before face (h ∷ hs) end =
     (λ e. before_face face (first_of h.pair.cell) (end_of h.pair.cell) (subst (λ n. face_begin n ≤ first_of h.pair.cell) e on.0) (omega arith) by)
     ∙ none_before face hs (λ x held. end x (in_tail h hs x held))
 
-none_after : (face : ℕ) (hs : Collection) → BeginFrom hs (face_begin (face + 1)) → held_on face hs ≡ []
+pub none_after : (face : ℕ) (hs : Collection) → BeginFrom hs (face_begin (face + 1)) → held_on face hs ≡ []
 none_after face [] begin = refl
 none_after face (h ∷ hs) begin =
     let rises = (span_of h).rises in
@@ -57,7 +57,7 @@ none_after face (h ∷ hs) begin =
     (λ e. let to = subst (λ n. end_of h.pair.cell ≤ face_begin (n + 1)) e on.1 in omega (arith, to, from, rises))
     ∙ none_after face hs (λ x held. begin x (in_tail h hs x held))
 
-both_kept : (face : ℕ) (hs ks : Collection) → held_on face (hs ++ ks) ≡ held_on face hs ++ held_on face ks
+pub both_kept : (face : ℕ) (hs ks : Collection) → held_on face (hs ++ ks) ≡ held_on face hs ++ held_on face ks
 both_kept face [] ks = refl
 both_kept face (h ∷ hs) ks =
     elim (cases_Bool (face_of h.pair.cell == face)) [
@@ -76,7 +76,7 @@ parted zero xs = refl
 parted (suc n) [] = refl
 parted (suc n) (x ∷ xs) = ap (λ ys. x ∷ ys) (parted n xs)
 
-held_append : (xs ys : List SpanRanges) → held_in (xs ++ ys) ≡ held_in xs ++ held_in ys
+pub held_append : (xs ys : List SpanRanges) → held_in (xs ++ ys) ≡ held_in xs ++ held_in ys
 held_append xs ys = flat_map-append (λ (t : SpanRanges). t.held) xs ys
 
 of_three : (face : ℕ) (xs ys zs : Collection) → held_on face xs ≡ [] → held_on face ys ≡ ys → held_on face zs ≡ []

@@ -3,7 +3,10 @@ use Rattle.std.proofs.Common.{◌≡◌, ℕ, zero, suc, ◌+◌, ◌<◌, ◌�
 use Rattle.std.proofs.lemmas.Bool.{cases_eq}
 use Rattle.s2ix_table_walk.specs.Table.{Range, range_at}
 use Rattle.s2ix_table.specs.declared.offset.Offset.{Offset}
+use Rattle.s2ix_bag_pairs.specs.Collection.{Collection}
+use Rattle.s2ix_table.specs.Layers.{with_over}
 use Rattle.s2ix_table.proofs.JoinedPlaces.{IsOne, IsTwo}
+use Rattle.s2ix_table.proofs.RangesOver.{length_over, limit_over, start_over}
 
 -- ranges stand at the end of others, from a offset on: the first may begin before
 pub record IsOffset (whole rest : List Range) (offset : Offset) : Type 0 where
@@ -26,6 +29,41 @@ pub record IsPart (whole part : List Range) (offset : Offset) (high : ℕ) : Typ
   pub start : (range_at whole offset.place).start ≡ offset.start
   pub by : offset.start ≤ (range_at part 0).start
   pub later : (k : ℕ) → 0 < k → k < length part → (range_at whole (offset.place + k)).start ≡ (range_at part k).start
+
+-- the same of ranges that may have other contents among those: they only begin and end as one table's do
+pub record IsSpread (whole part : List Range) (offset : Offset) (high : ℕ) : Type 0 where
+  pub some : 0 < length part
+  pub above : offset.place ≤ high
+  pub reach : high ≤ offset.place + length part
+  pub within : offset.place + length part ≤ length whole
+  pub limit : (k : ℕ) → k < length part → offset.place + k < high → (range_at whole (offset.place + k)).limit ≡ (range_at part k).limit
+  pub to : (k : ℕ) → k < length part → (range_at part k).limit ≤ (range_at whole (offset.place + k)).limit
+  pub start : (range_at whole offset.place).start ≡ offset.start
+  pub by : offset.start ≤ (range_at part 0).start
+  pub later : (k : ℕ) → 0 < k → k < length part → (range_at whole (offset.place + k)).start ≡ (range_at part k).start
+
+-- ranges of a part with more contents behind those of each
+pub spread : (whole part : List Range) (over : Collection) (offset : Offset) (high : ℕ) → IsPart whole (with_over over part) offset high
+    → IsSpread whole part offset high
+spread whole part over offset high is =
+    let len = length_over over part in
+    let some = is.some in
+    let above = is.above in
+    let reach = is.reach in
+    let within = is.within in
+    let by = is.by in
+    let first = start_over over part 0 in
+    record {
+      some = omega arith;
+      above = above;
+      reach = omega arith;
+      within = omega arith;
+      limit = λ k lt below. is.limit k (omega arith) below ∙ limit_over over part k;
+      to = λ k lt. let to = is.to k (omega arith) in let own = limit_over over part k in omega arith;
+      start = is.start;
+      by = omega arith;
+      later = λ k more lt. is.later k more (omega arith) ∙ start_over over part k;
+    }
 
 -- the last of some ranges ends by the first of others
 pub record IsCut (xs ys : List Range) (last : ℕ) : Type 0 where

@@ -1,11 +1,13 @@
 -- Parts that give way to others, with their offsets and where they begin.
 use Rattle.std.proofs.Common.{◌≡◌, ℕ, ◌+◌, ◌≤◌, List, ◌++◌, length, take, drop, get_or, sym, ◌∙◌, ap, ap₂, arith}
-use Rattle.std.proofs.lemmas.List.{get_or-drop}
+use Rattle.std.proofs.lemmas.List.{drop-map, get_or-drop, map-append, take-map}
 use Rattle.std.specs.declared.sync.Arc.{Arc}
 use Rattle.s2ix_table_spans.specs.SpanTable.{SpanRanges}
 use Rattle.s2ix_table.specs.declared.offset.Offset.{Offset}
 use Rattle.s2ix_table.specs.FaceSpans.{spans_of, starts_of}
 use Rattle.s2ix_table.specs.Offsets.{offset_at, offsets_from, offsets_of, AreOffsetsFrom}
+use Rattle.s2ix_bag_pairs.specs.Collection.{Collection}
+use Rattle.s2ix_table.specs.Layered.{cover, covered}
 use Rattle.s2ix_table.specs.Parts.{with_parts}
 use Rattle.s2ix_table.proofs.Moving.{own_behind}
 use Rattle.s2ix_table.proofs.Offsets.{length_offsets}
@@ -52,3 +54,12 @@ put_offsets spans made same now new f e k order within many many_new is put =
           rest ∙ own_behind e spans
           ∙ ap₂ (λ o ts. offsets_from o ts) (sym first) (sym (behind_new spans made f e k (omega arith) many));
     }
+
+-- parts that stay lie under the same heavy pairs as before
+pub put_covered : (before after : Collection) (spans made : List SpanRanges) (f e : ℕ) → covered after (take f spans) ≡ covered before (take f spans)
+    → covered after (drop e spans) ≡ covered before (drop e spans)
+    → covered after (with_parts spans f e made) ≡ with_parts (covered before spans) f e (covered after made)
+put_covered before after spans made f e front back =
+    map-append (cover after) (take f spans) (made ++ drop e spans)
+    ∙ ap₂ (λ xs ys. xs ++ ys) (front ∙ sym (take-map (cover before) f spans))
+    (map-append (cover after) made (drop e spans) ∙ ap (λ ys. covered after made ++ ys) (back ∙ sym (drop-map (cover before) e spans)))

@@ -10,19 +10,20 @@ use Rattle.s2ix_table_spans.specs.SpanTable.{SpanRanges}
 use Rattle.s2ix_table.specs.declared.offset.Offset.{Offset}
 use Rattle.s2ix_table.specs.FaceSpans.{no_table, table_of}
 use Rattle.s2ix_table.specs.Joined.{held_in, joined_ranges}
+use Rattle.s2ix_table.specs.Layers.{together}
+use Rattle.s2ix_table.specs.Layered.{covered}
 use Rattle.s2ix_table.specs.Whole.{AreJoined}
 use Rattle.s2ix_table.proofs.Cuts.{cut_is}
 use Rattle.s2ix_table.proofs.FirstParts.{start_of}
-use Rattle.s2ix_table.proofs.Neighbours.{joined_table}
-use Rattle.s2ix_table.proofs.Reading.{no_offset, placed, places_rise, known}
-use Rattle.s2ix_table.proofs.Placing.{IsPart}
+use Rattle.s2ix_table.proofs.Reading.{no_offset, all_table, placed, places_rise, known}
+use Rattle.s2ix_table.proofs.Placing.{IsSpread}
 use Rattle.s2ix_table.proofs.Offsets.{high_of}
 
 -- ---- all ranges of some parts
 
 -- from where one part begins to the end of another
-window_between : (whole first last : List Range) (offset offset_last : Offset) (high high_last leaf until : ℕ) → IsPart whole first offset high
-    → IsPart whole last offset_last high_last → offset.place ≤ offset_last.place → (range_at first 0).start ≤ leaf → leaf < until
+window_between : (whole first last : List Range) (offset offset_last : Offset) (high high_last leaf until : ℕ) → IsSpread whole first offset high
+    → IsSpread whole last offset_last high_last → offset.place ≤ offset_last.place → (range_at first 0).start ≤ leaf → leaf < until
     → ((k : ℕ) → k + 1 ≡ length last → (range_at last k).limit ≡ until)
     → ((j k : ℕ) → j + 1 ≡ k → k < length whole → (range_at whole j).limit ≡ (range_at whole k).start)
     → HaveLeaves whole leaf until offset.place (offset_last.place + length last - offset.place)
@@ -44,14 +45,14 @@ window_between whole first last offset offset_last high high_last leaf until a b
           omega arith;
     }
 
-pub parts_window : {parts : List SpanRanges} {starts : List ℕ} {offsets : List Offset} {faces : List ℕ} {count : ℕ} (first last leaf end : ℕ)
-    (span : SpanRanges) → AreJoined parts starts offsets faces count → first ≤ last → last < length parts → slice_index_or starts first 0 ≤ leaf
+pub parts_window : {parts : List SpanRanges} {heavy : Collection} {starts : List ℕ} {offsets : List Offset} {faces : List ℕ} {count : ℕ} (first last leaf end : ℕ)
+    (span : SpanRanges) → AreJoined parts heavy starts offsets faces count → first ≤ last → last < length parts → slice_index_or starts first 0 ≤ leaf
     → leaf < (table_of parts last).to → span ≡ table_of parts last → end ≡ (get_or offsets last no_offset).place + length span.ranges
     → ((get_or offsets first no_offset).place ≤ end)
-    × HaveLeaves (joined_ranges parts) leaf (table_of parts last).to (get_or offsets first no_offset).place
+    × HaveLeaves (joined_ranges (covered heavy parts)) leaf (table_of parts last).to (get_or offsets first no_offset).place
     (end - (get_or offsets first no_offset).place)
-parts_window {parts} {starts} {offsets} {faces} {count} first last leaf end span are order lt begins later same ends =
-    let all = joined_ranges parts in
+parts_window {parts} {heavy} {starts} {offsets} {faces} {count} first last leaf end span are order lt begins later same ends =
+    let all = joined_ranges (covered heavy parts) in
     let first_part = placed first no_table no_offset are (omega arith) in
     let last_part = placed last no_table no_offset are lt in
     let le = places_rise first last are order lt in
@@ -60,7 +61,7 @@ parts_window {parts} {starts} {offsets} {faces} {count} first last leaf end span
     let from = first_is.table.first in
     let begin = cut_is first 1 parts leaf_end no_table are.neighbours (omega arith) in
     let start = start_of first are (omega arith) in
-    let whole = joined_table 1 parts leaf_end (omega arith) are.neighbours in
+    let whole = all_table are in
     let have =
     window_between all (table_of parts first).ranges (table_of parts last).ranges (get_or offsets first no_offset) (get_or offsets last no_offset)
     (high_of offsets first count) (high_of offsets last count) leaf (table_of parts last).to first_part last_part le (omega arith) later
@@ -84,7 +85,7 @@ start_at part starts k is lt =
     ∙ ap (λ ss. slice_index_or ss k 0) (sym is)
 
 stretch_part : (hs : Collection) (whole part : List Range) (offset : Offset) (high : ℕ) (starts : List ℕ) → IsTableOver hs 1 leaf_end whole
-    → IsPart whole part offset high → starts ≡ map (λ (r : Range). r.start) part
+    → IsSpread whole part offset high → starts ≡ map (λ (r : Range). r.start) part
     → IsStretch whole (offset.place + 1) (length starts - 2) (drop 1 starts)
 stretch_part hs whole part offset high starts t is same =
     let some = is.some in
@@ -111,20 +112,20 @@ stretch_part hs whole part offset high starts t is same =
     length-drop [] more = absurd (omega arith)
     length-drop (x ∷ xs) more = omega arith
 
-pub part_stretch : {parts : List SpanRanges} {starts : List ℕ} {offsets : List Offset} {faces : List ℕ} {count : ℕ} (part : ℕ) (span : SpanRanges) (own : List ℕ) → AreJoined parts starts offsets faces count → part < length parts → span ≡ table_of parts part
+pub part_stretch : {parts : List SpanRanges} {heavy : Collection} {starts : List ℕ} {offsets : List Offset} {faces : List ℕ} {count : ℕ} (part : ℕ) (span : SpanRanges) (own : List ℕ) → AreJoined parts heavy starts offsets faces count → part < length parts → span ≡ table_of parts part
     → own ≡ map (λ (r : Range). r.start) span.ranges
-    → IsStretch (joined_ranges parts) ((get_or offsets part no_offset).place + 1) (length own - 2) (drop 1 own)
-part_stretch {parts} {starts} {offsets} {faces} {count} part span own are lt same is =
+    → IsStretch (joined_ranges (covered heavy parts)) ((get_or offsets part no_offset).place + 1) (length own - 2) (drop 1 own)
+part_stretch {parts} {heavy} {starts} {offsets} {faces} {count} part span own are lt same is =
     let at = placed part no_table no_offset are lt in
     let begins = is ∙ ap (λ (s : SpanRanges). map (λ (r : Range). r.start) s.ranges) same in
-    let table = joined_table 1 parts leaf_end (omega arith) are.neighbours in
-    stretch_part (held_in parts) (joined_ranges parts) (table_of parts part).ranges (get_or offsets part no_offset)
+    let table = all_table are in
+    stretch_part (together (held_in parts) heavy) (joined_ranges (covered heavy parts)) (table_of parts part).ranges (get_or offsets part no_offset)
     (high_of offsets part count) own table at begins
 
 -- each part has a range
-pub some_starts : {parts : List SpanRanges} {starts : List ℕ} {offsets : List Offset} {faces : List ℕ} {count : ℕ} (part : ℕ) (span : SpanRanges) (own : List ℕ) → AreJoined parts starts offsets faces count → part < length parts → span ≡ table_of parts part
+pub some_starts : {parts : List SpanRanges} {heavy : Collection} {starts : List ℕ} {offsets : List Offset} {faces : List ℕ} {count : ℕ} (part : ℕ) (span : SpanRanges) (own : List ℕ) → AreJoined parts heavy starts offsets faces count → part < length parts → span ≡ table_of parts part
     → own ≡ map (λ (r : Range). r.start) span.ranges → 1 ≤ length own
-some_starts {parts} {starts} {offsets} {faces} {count} part span own are lt same is =
+some_starts {parts} {heavy} {starts} {offsets} {faces} {count} part span own are lt same is =
     let some = (placed part no_table no_offset are lt).some in
     let many = ap length is ∙ length-map span.ranges (λ (r : Range). r.start) in
     let ranges = ap (λ (s : SpanRanges). length s.ranges) same in

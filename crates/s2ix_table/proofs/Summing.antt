@@ -186,7 +186,7 @@ refused_by change hs w face before after le r =
 
 -- ---- what is kept of each face, with that of the faces before one renewed
 
-mapped_at : {A : Type 0} (f : ℕ → A) (n : ℕ) (d : A) → n < 6 → get_or (map f faces) n d ≡ f n
+pub mapped_at : {A : Type 0} (f : ℕ → A) (n : ℕ) (d : A) → n < 6 → get_or (map f faces) n d ≡ f n
 mapped_at f zero d lt = refl
 mapped_at f (suc zero) d lt = refl
 mapped_at f (suc (suc zero)) d lt = refl

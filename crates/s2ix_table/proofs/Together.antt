@@ -1,47 +1,40 @@
 -- Joining parts, one after the other.
-use Rattle.std.proofs.Common.{◌≡◌, ℕ, suc, ◌+◌, ◌<◌, ◌≤◌, List, [], ◌∷◌, length, get_or, slice_index_or, ap, arith}
+use Rattle.std.proofs.Common.{◌≡◌, ℕ, suc, ◌+◌, ◌<◌, ◌≤◌, List, [], ◌∷◌, length, get_or, slice_index_or, arith}
 use Rattle.std.proofs.lemmas.List.{length-map, get_or_past}
+use Rattle.s2ix_bag_pairs.specs.Collection.{Collection}
 use Rattle.s2ix_table_walk.specs.Table.{leaf_end}
 use Rattle.s2ix_table_spans.specs.SpanTable.{SpanRanges}
 use Rattle.s2ix_table_spans.proofs.Few.{few_ranges}
 use Rattle.s2ix_table.specs.declared.offset.Offset.{Offset}
-use Rattle.s2ix_table.specs.FaceSpans.{no_table, table_of, starts_of, AreFirstParts}
-use Rattle.s2ix_table.specs.Joined.{held_in, joined_ranges, AreNeighbours}
+use Rattle.s2ix_table.specs.FaceSpans.{no_table, table_of, starts_of}
+use Rattle.s2ix_table.specs.Joined.{joined_ranges, AreNeighbours}
 use Rattle.s2ix_table.specs.Offsets.{offset_at, offsets_of, places_of}
-use Rattle.s2ix_table.specs.Whole.{AreJoined}
-use Rattle.s2ix_table.proofs.Neighbours.{joined_table}
+use Rattle.s2ix_table.proofs.Neighbours.{AreOverSpans, table_over_spans}
 use Rattle.s2ix_table.proofs.Offsets.{high_of, offsets_fit, length_offsets}
 use Rattle.s2ix_table.proofs.Reading.{first_offset, no_offset}
 
 -- the ranges of a part end among all, of which there are few
-pub ends_few : (parts : List SpanRanges) (i : ℕ) → AreNeighbours 1 parts leaf_end → length (held_in parts) ≤ 1000000 → i < length parts
+pub ends_few : (held : Collection) (parts : List SpanRanges) (i : ℕ) → AreOverSpans held 1 parts leaf_end → length held ≤ 1000000 → i < length parts
     → (get_or (offsets_of parts) i no_offset).place + length (table_of parts i).ranges ≤ 2000001
-ends_few parts i are few lt =
-    let within = (offsets_fit parts leaf_end i no_table no_offset are lt).within in
-    let ranges = few_ranges (held_in parts) 1 leaf_end (joined_ranges parts) (joined_table 1 parts leaf_end (omega arith) are) in
+ends_few held parts i are few lt =
+    let within = (offsets_fit held parts leaf_end i no_table no_offset are lt).within in
+    let ranges = few_ranges held 1 leaf_end (joined_ranges parts) (table_over_spans held 1 parts leaf_end (omega arith) are) in
     omega arith
 
 -- all ranges are counted
-pub all_counted : (parts : List SpanRanges) (i count : ℕ) (last : SpanRanges) → AreNeighbours 1 parts leaf_end → suc i ≡ length parts
-    → last ≡ table_of parts i → count ≡ (offset_at (offsets_of parts) i).place + length last.ranges → count ≡ length (joined_ranges parts)
-all_counted parts i count last are all is sum =
+pub all_counted : (held : Collection) (parts : List SpanRanges) (i count : ℕ) → AreOverSpans held 1 parts leaf_end → suc i ≡ length parts
+    → count ≡ (offset_at (offsets_of parts) i).place + length (table_of parts i).ranges → count ≡ length (joined_ranges parts)
+all_counted held parts i count are all sum =
     let lt : i < length parts = omega arith in
-    let part = offsets_fit parts leaf_end i no_table no_offset are lt in
+    let part = offsets_fit held parts leaf_end i no_table no_offset are lt in
     let many_offsets = length_offsets first_offset parts in
     let many = length-map (offsets_of parts) (λ (s : Offset). s.place) in
     let high : high_of (offsets_of parts) i (length (joined_ranges parts)) ≡ length (joined_ranges parts) =
     get_or_past (places_of (offsets_of parts)) (suc i) (length (joined_ranges parts)) (omega arith) in
     let reach = part.reach in
     let within = part.within in
-    let own = ap (λ (s : SpanRanges). length s.ranges) is in
     omega arith
 
 pub first_start : (parts : List SpanRanges) → AreNeighbours 1 parts leaf_end → slice_index_or (starts_of parts) 0 0 ≡ 1
 first_start [] are = absurd (omega (arith, are))
 first_start (t ∷ ts) are = are.0
-
-pub are_joined : (parts : List SpanRanges) (starts : List ℕ) (offsets : List Offset) (faces : List ℕ) (count : ℕ) → AreNeighbours 1 parts leaf_end
-    → length (held_in parts) ≤ 1000000 → starts ≡ starts_of parts → offsets ≡ offsets_of parts → AreFirstParts starts faces
-    → count ≡ length (joined_ranges parts) → AreJoined parts starts offsets faces count
-are_joined parts starts offsets faces count are few begins places firsts counts =
-    record { neighbours = are; starts_are = begins; offsets_are = places; faces_are = firsts; few = few; counted = counts }

@@ -12,11 +12,6 @@ use Rattle.s2ix_table_spans.specs.SpanTable.{SpanRanges}
 abbrev pub AreOnFace : ℕ → Collection → Type 0
 AreOnFace face held = (h : Held) → Contains held h → face_of h.pair.cell ≡ face
 
--- a table over the span of a face
-pub record IsOverFace (face : ℕ) (table : SpanRanges) : Type 0 where
-  pub from : table.from ≡ face_begin face
-  pub to : table.to ≡ face_begin (face + 1)
-
 -- what shared tables show
 abbrev pub spans_of : {Z : Type 0} → List (Arc SpanRanges Z) → List SpanRanges
 spans_of tables = map arc_value tables
@@ -48,3 +43,7 @@ pub record AreFirstParts (starts faces : List ℕ) : Type 0 where
 abbrev pub parts_of_face : List SpanRanges → List ℕ → ℕ → List SpanRanges
 parts_of_face parts faces face =
     take (slice_index_or faces (face + 1) 0 - slice_index_or faces face 0) (drop (slice_index_or faces face 0) parts)
+
+-- what a face has of a list that has an element for each part, by these numbers
+abbrev pub of_face : {A : Type 0} → List A → List ℕ → ℕ → List A
+of_face list faces face = take (slice_index_or faces (face + 1) 0 - slice_index_or faces face 0) (drop (slice_index_or faces face 0) list)

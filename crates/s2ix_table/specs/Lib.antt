@@ -19,6 +19,8 @@ pub mod PartPlaces
 pub mod Whole
 pub mod OneProof
 pub mod Parts
-pub mod PartsOf
 pub mod AllLeaves
 pub mod Blocks
+pub mod Layers
+pub mod Layered
+pub mod Split

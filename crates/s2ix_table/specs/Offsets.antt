@@ -1,15 +1,15 @@
 -- Where the ranges of each table stand among the joined ones.
-use Rattle.std.specs.Prelude.{◌≡◌, ℕ, ◌+◌, ◌-◌, ◌<◌, ◌≤◌, ◌==◌, ◌&&◌, if◌then◌else◌, Bool, List, [], ◌∷◌, length, map, drop, slice_index_or}
+use Rattle.std.specs.Prelude.{◌≡◌, ℕ, ◌+◌, ◌-◌, ◌<◌, ◌≤◌, ◌==◌, if◌then◌else◌, Bool, List, [], ◌∷◌, length, map, drop, slice_index_or}
 use Rattle.s2ix_table_walk.specs.Table.{Range, range_at}
 use Rattle.s2ix_table_spans.specs.SpanTable.{SpanRanges}
 use Rattle.s2ix_table_spans.specs.Starts.{IsLastStart}
 use Rattle.s2ix_table.specs.FaceSpans.{table_of}
-use Rattle.s2ix_table.specs.Joined.{is_nil}
+use Rattle.s2ix_table.specs.Joined.{is_same}
 use Rattle.s2ix_table.specs.declared.offset.Offset.{Offset}
 
 -- whether the last range of a table and the first one of the next are one
 abbrev pub is_joined : List Range → List Range → Bool
-is_joined rs ss = is_nil (range_at rs (length rs - 1)).contents && is_nil (range_at ss 0).contents
+is_joined rs ss = is_same (range_at rs (length rs - 1)).contents (range_at ss 0).contents
 
 -- where the last range of a table begins
 abbrev pub last_start : Offset → List Range → ℕ

@@ -7,6 +7,7 @@ use Rattle.s2ix_bag_pairs.specs.Collection.{Collection, IsCollection}
 use Rattle.s2ix_bag_pairs.specs.declared.pair.Entry.{Entry}
 use Rattle.s2ix_bag_pairs.specs.declared.pair.Held.{Held}
 use Rattle.s2ix_table_spans.specs.SpanTable.{SpanRanges}
+use Rattle.s2ix_table.specs.FaceSpans.{table_of}
 use Rattle.s2ix_table.specs.Joined.{held_in, AreNeighbours}
 
 -- cells end by a leaf number
@@ -66,3 +67,14 @@ pub record IsCut (tables : List SpanRanges) (lists : List Collection) (entries :
   pub entries_fit : entry_count ≤ length entries
   pub own : IsChangedSpan (take place tables) (take list_count lists) (take entry_count entries) from seam
   pub later : IsChangedSpan (drop place tables) (drop list_count lists) (drop entry_count entries) seam to
+
+-- parts with numbers from `first` on and before `end`, of parts that end by `last`, go over the leaves from one number up to another, and
+-- the cells of all entries lie there
+pub record AreTouched (parts : List SpanRanges) (entries : List Entry) (last first end from to : ℕ) : Type 0 where
+  pub some : first < end
+  pub within : end ≤ length parts
+  pub begins : from ≡ (table_of parts first).from
+  pub ends : end < length parts → to ≡ (table_of parts end).from
+  pub ends_all : end ≡ length parts → to ≡ last
+  pub entries_begin : EntriesBeginFrom entries from
+  pub entries_end : EntriesEndBy entries to

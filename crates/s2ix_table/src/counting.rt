@@ -1,12 +1,16 @@
 //! Where the parts of a table begin.
-ghost use Rattle.std.specs.Prelude.{◌≡◌, ◌<◌, ◌≤◌, IfOk, length, max, take};
-ghost use Rattle.s2ix_table_walk.specs.Table.{leaf_end};
-ghost use Rattle.s2ix_table.specs.FaceSpans.{spans_of, starts_of};
-ghost use Rattle.s2ix_table.specs.Joined.{held_in, joined_ranges, AreNeighbours};
+ghost use Rattle.std.specs.Prelude.{◌≡◌, ◌↔◌, ◌-◌, IsTrue, ◌<◌, ◌≤◌, IfOk, length, max, take};
+ghost use Rattle.s2ix_table_walk.specs.Contents.{contents_at};
+ghost use Rattle.s2ix_table.specs.FaceSpans.{spans_of, starts_of, table_of};
+ghost use Rattle.s2ix_table.specs.Joined.{joined_ranges};
+ghost use Rattle.s2ix_table.specs.Layered.{IsLayout, covered, heavy_in};
 ghost use Rattle.s2ix_table.specs.Offsets.{AreOffsetsFrom, offsets_of};
 
+use crate::heavy_pairs::HeavyPairs;
 use crate::offset::{Offset, move_from};
-use s2id_core::OutOfMemory;
+use crate::part_place::FaceHeavyPlace;
+use s2id_core::{FACES, OutOfMemory};
+use s2ix_table_heavy::HeavyPlace;
 use s2ix_table_spans::SpanTable;
 use std::alloc::Global;
 use std::sync::Arc;
@@ -29,53 +33,72 @@ pub(crate) fn uncounted(alloc: Global, count: usize) -> Result<Vec<Offset>, OutO
     Ok(Vec::from_elem(alloc, Offset::FIRST, count)?)
 }
 
-// Counts the offsets of parts and how many ranges these have. The offsets of the parts before `first` are right, and those from `end` on
-// are as far from one another as they should be. O(q) for q parts from `first` on. It reads the parts up to `end`, and mostly none behind.
-pub(crate) fn count_from(
-    parts: &[Arc<SpanTable>],
-    first: usize,
-    end: usize,
-    offsets: &mut [Offset],
-) -> usize
-    requires neighbours { AreNeighbours 1 (spans_of parts.now) leaf_end }
-    requires few { length (held_in (spans_of parts.now)) ≤ 1000000 }
-    requires within { first ≤ length parts.now }
-    requires many { length offsets.old ≡ length parts.now }
-    requires before { take first offsets.old ≡ take first (offsets_of (spans_of parts.now)) }
-    requires behind { AreOffsetsFrom end offsets.old (spans_of parts.now) }
-    ensures offsets { offsets.new ≡ offsets_of (spans_of parts.now) }
-    ensures count { result ≡ length (joined_ranges (spans_of parts.now)) }
-{
-    offsets[0] = Offset::FIRST;
-    let mut next = first.max(1);
-    while next < parts.len() {
-        next = count_next(parts, next, end, offsets);
-    }
-    offsets[next - 1].place + parts[next - 1].range_count()
+// The parts of a table, for each the place that leads to the heavy pairs over it, and the heavy pairs of each face.
+#[derive(Clone, Copy)]
+pub(crate) struct Layout<'a> {
+    pub(crate) parts: &'a [Arc<SpanTable>],
+    pub(crate) overs: &'a [Option<HeavyPlace>],
+    pub(crate) heavy: &'a [HeavyPairs; FACES],
 }
 
-// Counts the offset of the part `next`, which is not the first. If a part from `end` on begins as it did, those behind it do so too: their
-// places move as far as its own. Returns before which part the offsets are right then.
-fn count_next(parts: &[Arc<SpanTable>], next: usize, end: usize, offsets: &mut [Offset]) -> usize
-    requires neighbours { AreNeighbours 1 (spans_of parts.now) leaf_end }
-    requires few { length (held_in (spans_of parts.now)) ≤ 1000000 }
-    requires some { 0 < next }
-    requires within { next < length parts.now }
-    requires many { length offsets.old ≡ length parts.now }
-    requires before { take next offsets.old ≡ take next (offsets_of (spans_of parts.now)) }
-    requires behind { AreOffsetsFrom (max next end) offsets.old (spans_of parts.now) }
-    ensures rises { next < result }
-    ensures within { result ≤ length parts.now }
-    ensures many { length offsets.new ≡ length parts.now }
-    ensures before { take result offsets.new ≡ take result (offsets_of (spans_of parts.now)) }
-    ensures behind { AreOffsetsFrom (max result end) offsets.new (spans_of parts.now) }
-{
-    let offset = offsets[next - 1].after(&parts[next - 1], &parts[next]);
-    if next >= end && offset.start == offsets[next].start {
-        move_from(offsets, next, offset.place);
-        parts.len()
-    } else {
-        offsets[next] = offset;
-        next + 1
+impl Layout<'_> {
+    // Counts the offsets of the parts and how many ranges these have. The offsets of the parts before `first` are right, and those from
+    // `end` on are as far from one another as they should be. O(q) for q parts from `first` on. It reads the parts up to `end`, and mostly
+    // none behind.
+    pub(crate) fn count_from(self, first: usize, end: usize, offsets: &mut [Offset]) -> usize
+        requires layout { IsLayout (spans_of self.parts.now) self.heavy.now self.overs.now }
+        requires within { first ≤ length self.parts.now }
+        requires many { length offsets.old ≡ length self.parts.now }
+        requires before { take first offsets.old ≡ take first (offsets_of (covered (heavy_in self.heavy.now) (spans_of self.parts.now))) }
+        requires behind { AreOffsetsFrom end offsets.old (covered (heavy_in self.heavy.now) (spans_of self.parts.now)) }
+        ensures offsets { offsets.new ≡ offsets_of (covered (heavy_in self.entry.heavy.now) (spans_of self.entry.parts.now)) }
+        ensures count { result ≡ length (joined_ranges (covered (heavy_in self.entry.heavy.now) (spans_of self.entry.parts.now))) }
+    {
+        offsets[0] = Offset::FIRST;
+        let mut next = first.max(1);
+        while next < self.parts.len() {
+            next = self.count_next(next, end, offsets);
+        }
+        offsets[next - 1].place + self.parts[next - 1].range_count()
+    }
+
+    // Counts the offset of the part `next`, which is not the first. If a part from `end` on begins as it did, those behind it do so too:
+    // their places move as far as its own. Returns before which part the offsets are right then.
+    fn count_next(self, next: usize, end: usize, offsets: &mut [Offset]) -> usize
+        requires layout { IsLayout (spans_of self.parts.now) self.heavy.now self.overs.now }
+        requires some { 0 < next }
+        requires within { next < length self.parts.now }
+        requires many { length offsets.old ≡ length self.parts.now }
+        requires before { take next offsets.old ≡ take next (offsets_of (covered (heavy_in self.heavy.now) (spans_of self.parts.now))) }
+        requires behind { AreOffsetsFrom (max next end) offsets.old (covered (heavy_in self.heavy.now) (spans_of self.parts.now)) }
+        ensures rises { next < result }
+        ensures within { result ≤ length self.entry.parts.now }
+        ensures many { length offsets.new ≡ length self.entry.parts.now }
+        ensures before { take result offsets.new ≡ take result (offsets_of (covered (heavy_in self.entry.heavy.now) (spans_of self.entry.parts.now))) }
+        ensures behind { AreOffsetsFrom (max result end) offsets.new (covered (heavy_in self.entry.heavy.now) (spans_of self.entry.parts.now)) }
+    {
+        let same_over = self.is_under_same(next);
+        let offset = offsets[next - 1].after(&self.parts[next - 1], &self.parts[next], same_over);
+        if next >= end && offset.start == offsets[next].start {
+            move_from(offsets, next, offset.place);
+            self.parts.len()
+        } else {
+            offsets[next] = offset;
+            next + 1
+        }
+    }
+
+    // Whether a part that is not the first and the one before it lie under the same heavy pairs. O(1).
+    fn is_under_same(self, next: usize) -> bool
+        requires layout { IsLayout (spans_of self.parts.now) self.heavy.now self.overs.now }
+        requires some { 0 < next }
+        requires within { next < length self.parts.now }
+        ensures { IsTrue result
+            ↔ (contents_at (table_of (spans_of self.entry.parts.now) (next - 1)).from (heavy_in self.entry.heavy.now)
+            ≡ contents_at (table_of (spans_of self.entry.parts.now) next).from (heavy_in self.entry.heavy.now)) }
+    {
+        let one = FaceHeavyPlace::there(self.overs[next - 1], self.parts[next - 1].from());
+        let other = FaceHeavyPlace::there(self.overs[next], self.parts[next].from());
+        FaceHeavyPlace::are_one(one, other)
     }
 }

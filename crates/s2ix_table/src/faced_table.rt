@@ -1,4 +1,4 @@
-ghost use Rattle.std.specs.Prelude.{◌≡◌, ◌≤◌, ◌<◌, ◌+◌, ◌*◌, IfOk, IfSome, None, OnErr, OnOk, length};
+ghost use Rattle.std.specs.Prelude.{◌≡◌, ◌≤◌, ◌<◌, ◌+◌, ◌*◌, ◌++◌, IfOk, IfSome, None, OnErr, OnOk, drop, length, set, take, vec_capacity, ℕ, map, slice_index_or, ◌≢◌, ◌∷◌, false};
 ghost use Rattle.s2id_core.specs.BinaryDigits.{binary_digits};
 ghost use Rattle.s2id_core.specs.CellId.{raw_of};
 ghost use Rattle.s2ix_bag_pairs.specs.Change.{changed};
@@ -7,33 +7,44 @@ ghost use Rattle.s2ix_bag_pairs.specs.OneProof.{IsCollection-prop};
 ghost use Rattle.s2ix_table_spans.specs.Once.{KeepsOnce};
 ghost use Rattle.s2ix_table_spans.specs.Starts.{IsLastStart};
 ghost use Rattle.s2ix_table_walk.specs.FaceWindows.{face_begin};
-ghost use Rattle.s2ix_table_walk.specs.Places.{LeadsTo};
+ghost use Rattle.s2ix_table_walk.specs.Contents.{contents_at};
+ghost use Rattle.s2ix_table_walk.specs.Places.{IsPlace, LeadsTo};
+ghost use Rattle.s2ix_table.specs.declared.part_place.FacedPlace.TheVariants.{Light, Heavy};
 ghost use Rattle.s2ix_table_walk.specs.Shown.{AreBorders};
 ghost use Rattle.s2ix_table_walk.specs.Table.{range_at, IsFound, IsRangeTable, leaf_end};
 ghost use Rattle.s2ix_table.specs.Blocks.{AreBlocks};
-ghost use Rattle.s2ix_table.specs.Faces.{changed_count, held_on};
-ghost use Rattle.s2ix_table.specs.FaceSpans.{BeginFaces, parts_of_face, spans_of, starts_of, table_of};
+ghost use Rattle.s2ix_table.specs.Faces.{changed_count, held_on, changed_on, faces, has_entry_on};
+ghost use Rattle.s2ix_table.specs.FaceSpans.{BeginFaces, parts_of_face, spans_of, starts_of, table_of, AreOnFace, of_face};
 ghost use Rattle.s2ix_table.specs.Joined.{held_in, joined_ranges, AreNeighbours};
+ghost use Rattle.s2ix_table.specs.Layered.{AreLayered, IsLayout, covered, heavy_in, IsFaceLayered, IsFaceWith, chunks_on};
+ghost use Rattle.s2ix_table.specs.Layers.{together};
 ghost use Rattle.s2ix_table.specs.Offsets.{HasOwn, HasRange, place_on, places_of};
-ghost use Rattle.s2ix_table.specs.OneProof.{joined-prop, joined_once-prop};
-ghost use Rattle.s2ix_table.specs.PartPlaces.{chain_from};
+ghost use Rattle.s2ix_table.specs.OneProof.{joined-prop, layered-prop, faced_once-prop};
+ghost use Rattle.s2ix_table.specs.PartPlaces.{chain_from, faced_chain};
 ghost use Rattle.s2ix_table.specs.Parts.{with_parts};
 ghost use Rattle.s2ix_table.specs.Whole.{AreJoined};
+ghost use Rattle.s2ix_bag_lists.specs.Faces.{all_of};
 
 use crate::bag_reader::BagReader;
 use crate::blocks::{Blocks, room_for};
 use crate::changes::only_face;
-use crate::counting::{begins_of, count_from, uncounted};
-use crate::new_parts::{NewParts, put_between};
+use crate::counting::{Layout, begins_of, uncounted};
+use crate::entries_on::entries_on;
+use crate::face_after::Face;
+use crate::heavy_pairs::{HeavyPairs, all_are_chunks, set_face};
+use crate::new_parts::{AllFaces, NewFace, NewParts, put_between};
 use crate::offset::{Offset, offset_by};
 use crate::pair_reader::PairReader;
-use crate::part_place::PartPlace;
+use crate::part_place::{FaceHeavyPlace, FacedPlace, PartPlace};
+use crate::read_faces::read_changed_lists;
 use crate::shares_chains::SharesChains;
 use crate::starts::{first_parts, start_by};
-use crate::tables::{read_parts_after, read_tables, share, tables_after};
+use crate::tables::{read_all_faces, share};
 use s2id_core::{CellId, FACES, LEAF_END, OutOfMemory};
 use s2ix_bag_changes::{Bag, Change};
+use s2ix_bag_lists::HeldParts;
 use s2ix_bag_pairs::Held;
+use s2ix_table_heavy::HeavyPlace;
 use s2ix_table_queries::{RangeTable, Stretch};
 use s2ix_table_spans::SpanTable;
 use s2ix_table_walk::{LeafWindow, RangeRow, Window};
@@ -43,9 +54,9 @@ use std::sync::Arc;
 // The lists of more parts than this are out of the processor's cache.
 const MANY_PARTS: usize = 64;
 
-/// A range table in parts. Each part is a table with shared chains over some leaves of one face, and the tables that are made of this one
-/// by [`FacedTable::rebuilt`] share its parts. Empty ranges that meet where two parts do are one. Building takes O(n) for n pairs. S2
-/// builds its whole index again.
+/// A range table in parts. Each part is a table with shared chains over some leaves of one face, and the pairs of heavy cells lie in chunks
+/// over the parts. A table that [`FacedTable::rebuilt`] makes of this one shares its parts. Ranges that meet where two parts do are one if
+/// they have the same contents. Building takes O(n), and O(n log n) if cells are heavy. S2 builds its whole index anew after a change.
 ///
 /// Costs are in n, the number of the table's pairs, and p, the number of its parts.
 #[derive(Debug, Drop)]
@@ -62,23 +73,27 @@ pub struct FacedTable {
     faces: [usize; FACES + 1],
     // how many ranges there are
     count: usize,
-    ghost joined: { AreJoined (spans_of parts.items) starts.items offsets.items faces count } by { joined-prop (spans_of parts.items) starts.items offsets.items faces count },
+    // the heavy pairs of each face
+    heavy: [HeavyPairs; FACES],
+    // for each part the place that leads to the heavy pairs over it
+    overs: Vec<Option<HeavyPlace>>,
+    ghost joined: { AreJoined (spans_of parts.items) (heavy_in heavy) starts.items offsets.items faces count } by { joined-prop (spans_of parts.items) (heavy_in heavy) starts.items offsets.items faces count },
     ghost blocked: { AreBlocks starts.items blocks },
-    ghost rises: { IsCollection (held_in (spans_of parts.items)) } by { IsCollection-prop 0 (held_in (spans_of parts.items)) },
-    ghost few: { length (held_in (spans_of parts.items)) ≤ 1000000 },
-    ghost table: { IsRangeTable (held_in (spans_of parts.items)) (joined_ranges (spans_of parts.items)) },
-    ghost bordered: { AreBorders (joined_ranges (spans_of parts.items)) (places_of offsets.items) },
-    ghost once: { KeepsOnce (chain_from (spans_of parts.items)) } by { joined_once-prop (spans_of parts.items) },
+    ghost layered: { AreLayered heavy (spans_of parts.items) overs.items } by { layered-prop heavy (spans_of parts.items) overs.items },
+    ghost rises: { IsCollection (together (held_in (spans_of parts.items)) (heavy_in heavy)) } by { IsCollection-prop 0 (together (held_in (spans_of parts.items)) (heavy_in heavy)) },
+    ghost table: { IsRangeTable (together (held_in (spans_of parts.items)) (heavy_in heavy)) (joined_ranges (covered (heavy_in heavy) (spans_of parts.items))) },
+    ghost bordered: { AreBorders (joined_ranges (covered (heavy_in heavy) (spans_of parts.items))) (places_of offsets.items) },
+    ghost once: { KeepsOnce (faced_chain (spans_of parts.items) heavy) } by { faced_once-prop (spans_of parts.items) heavy },
 }
 
 impl RangeTable for FacedTable {
-    type Place = PartPlace;
+    type Place = FacedPlace;
 
-    ghost pairs = { λ t. held_in (spans_of t.parts.items) };
+    ghost pairs = { λ t. together (held_in (spans_of t.parts.items)) (heavy_in t.heavy) };
 
-    ghost ranges = { λ t. joined_ranges (spans_of t.parts.items) };
+    ghost ranges = { λ t. joined_ranges (covered (heavy_in t.heavy) (spans_of t.parts.items)) };
 
-    ghost chain = { λ t p. chain_from (spans_of t.parts.items) p };
+    ghost chain = { λ t p. faced_chain (spans_of t.parts.items) t.heavy p };
 
     ghost borders = { λ t. places_of t.offsets.items };
 
@@ -88,12 +103,12 @@ impl RangeTable for FacedTable {
 
     ghost are_borders = { λ t. t.bordered };
 
-    ghost few = { λ t. t.few };
+    ghost few = { λ t. t.joined.few };
 
     fn build(alloc: Global, bag: &Bag) -> Result<Self, OutOfMemory> {
         let mut reader = BagReader::new(bag);
-        let parts = read_tables(alloc, &mut reader)?;
-        FacedTable::together(alloc, parts)
+        let all = read_all_faces(alloc, &mut reader)?;
+        FacedTable::together(alloc, all.parts, all.overs, all.heavy)
     }
 
     #[inline]
@@ -138,8 +153,8 @@ impl RangeTable for FacedTable {
         self.offsets[m].start
     }
 
-    // The ranges of a part but for the first one, which may begin before it, and the last one, which may end after it. The note is the part's
-    // number.
+    // The ranges of a part but for the first one, which may begin before it, and the last one, which may end after it. The note is the
+    // part's number.
     #[inline]
     fn stretch(&self, m: usize) -> Stretch<'_> {
         if m >= self.parts.len() {
@@ -158,13 +173,13 @@ impl RangeTable for FacedTable {
 
     // O(log p).
     #[inline]
-    fn first(&self, k: usize) -> Option<PartPlace> {
+    fn first(&self, k: usize) -> Option<FacedPlace> {
         let (part, own) = self.own_place(k);
         self.first_at(part, own)
     }
 
     #[inline]
-    fn read_near(&self, k: usize, note: usize) -> (RangeRow, Option<PartPlace>, usize) {
+    fn read_near(&self, k: usize, note: usize) -> (RangeRow, Option<FacedPlace>, usize) {
         match self.own_near(k, note) {
             Some(own) => (self.inner_row_at(note, own), self.first_at(note, own), note),
             None => self.read_far(k),
@@ -172,16 +187,18 @@ impl RangeTable for FacedTable {
     }
 
     #[inline]
-    fn held_at(&self, place: PartPlace) -> Held {
-        self.span(place.part).held_at(place.node)
+    fn held_at(&self, place: FacedPlace) -> Held {
+        match place {
+            FacedPlace::Light(place) => self.light_at(place),
+            FacedPlace::Heavy(place) => self.heavy_at(place),
+        }
     }
 
     #[inline]
-    fn outer(&self, place: PartPlace) -> Option<PartPlace> {
-        let part = place.part;
-        match self.span(part).outer(place.node) {
-            Some(outer) => Some(PartPlace { part, node: outer }),
-            None => None,
+    fn outer(&self, place: FacedPlace) -> Option<FacedPlace> {
+        match place {
+            FacedPlace::Light(place) => self.outer_of(place),
+            FacedPlace::Heavy(place) => self.outer_of_heavy(place),
         }
     }
 
@@ -192,7 +209,7 @@ impl RangeTable for FacedTable {
     }
 
     #[inline]
-    fn first_over(&self, leaf: CellId) -> Option<PartPlace> {
+    fn first_over(&self, leaf: CellId) -> Option<FacedPlace> {
         let (part, found) = self.own_found(leaf);
         self.first_at(part, found)
     }
@@ -225,10 +242,11 @@ impl FacedTable {
     }
 
     /// Makes this table that of its pairs after a change: `bag` reads the pairs that the change has made of them. The parts that an entry's
-    /// cell touches are made anew, the others stay. With p pairs on the faces on which the change has entries and n in all it reads p to
-    /// p + 12 * digits(n + 1) pairs, for the binary digits of n + 1: a whole face at once, which a bag hands on as it is. Besides, it takes
-    /// O(q + m + k) for q parts, m entries and the k pairs of the parts made anew. `OutOfMemory` if a growth is refused: then the table
-    /// stays as it is, and it has read at most so many.
+    /// cell touches are made anew or, if the cell is heavy, the chunk that has the entry's pair; the others stay. With f pairs on the faces
+    /// on which the change has entries and n in all it reads f to f + 12 * digits(n + 1) pairs, for the binary digits of n + 1: a whole
+    /// face at once, which a bag hands on as it is. Besides, it takes O(p + m + k) for m entries and the k pairs of what is made anew, and
+    /// O((p + m) log c + c) more under c chunks. A face of f pairs that is laid in layers anew takes O(f log f). `OutOfMemory` if a growth
+    /// is refused: then the table stays as it is, and it has read at most so many.
     pub fn rebuild<B: PairReader>(
         &mut self,
         alloc: Global,
@@ -244,46 +262,196 @@ impl FacedTable {
         ensures reads_all { OnOk result (changed_count change.now (B.shown bag.old) ≤ B.spent bag.new) }
         ensures reads_few { B.spent bag.new ≤ changed_count change.now (B.shown bag.old) + 12 * binary_digits (length (B.shown bag.old) + 1) }
     {
+        let lists = read_changed_lists(alloc, bag, change)?;
+        self.change_faces(alloc, &lists, change)?;
+        Ok(())
+    }
+
+    // Makes a change of the faces: for each face on which it has an entry, `lists` has the pairs that are there then. `OutOfMemory` if a
+    // growth is refused, or a part is shared too often: then the table stays as it is.
+    fn change_faces(
+        &mut self,
+        alloc: Global,
+        lists: &[Option<HeldParts>; FACES],
+        change: &Change,
+    ) -> Result<(), OutOfMemory>
+        requires lists { lists.now ≡ map (changed_on change.now (changed (⟦<FacedTable as RangeTable>⟧.pairs self.old) change.now)) faces }
+        requires rises { IsCollection (changed (⟦<FacedTable as RangeTable>⟧.pairs self.old) change.now) }
+        requires few { length (changed (⟦<FacedTable as RangeTable>⟧.pairs self.old) change.now) ≤ 1000000 }
+        ensures pairs { OnOk result (⟦<FacedTable as RangeTable>⟧.pairs self.new
+            ≡ changed (⟦<FacedTable as RangeTable>⟧.pairs self.old) change.now) }
+        ensures stays { OnErr result (⟦<FacedTable as RangeTable>⟧.pairs self.new ≡ ⟦<FacedTable as RangeTable>⟧.pairs self.old) }
+    {
         match only_face(change) {
-            Some(face) => {
-                let at = usize::from(face);
-                let new = read_parts_after(alloc, bag, face, self.parts_on(at), change)?;
-                self.put(alloc, new.on(self.faces[at]))?;
-                Ok(())
-            }
+            Some(face) => self.change_face(alloc, face, lists, change),
             None => {
-                let parts = tables_after(alloc, self, bag, change)?;
-                *self = FacedTable::together(alloc, parts)?;
+                let all = self.faces_after(alloc, lists, change)?;
+                *self = FacedTable::together(alloc, all.parts, all.overs, all.heavy)?;
                 Ok(())
             }
         }
     }
 
-    // Puts new parts into their places. O(p) for the p parts from the first one on. `OutOfMemory` if a growth is refused: then all stay.
-    fn put(&mut self, alloc: Global, new: NewParts) -> Result<(), OutOfMemory>
-        requires order { new.first ≤ new.end }
-        requires within { new.end ≤ length self.old.parts.items }
-        requires neighbours { AreNeighbours 1 (with_parts (spans_of self.old.parts.items) new.first new.end (spans_of new.parts.items)) leaf_end }
-        requires faces { BeginFaces (with_parts (spans_of self.old.parts.items) new.first new.end (spans_of new.parts.items)) }
-        requires few { length (held_in (with_parts (spans_of self.old.parts.items) new.first new.end (spans_of new.parts.items))) ≤ 1000000 }
-        ensures put { OnOk result (spans_of self.new.parts.items
-            ≡ with_parts (spans_of self.old.parts.items) new.first new.end (spans_of new.parts.items)) }
-        ensures stay { OnErr result (spans_of self.new.parts.items ≡ spans_of self.old.parts.items) }
+    // The same of a change that has entries on one face only.
+    fn change_face(
+        &mut self,
+        alloc: Global,
+        face: u8,
+        lists: &[Option<HeldParts>; FACES],
+        change: &Change,
+    ) -> Result<(), OutOfMemory>
+        requires six { face < 6 }
+        requires only { (other : ℕ) → other < 6 → other ≢ face → has_entry_on change.now other ≡ false }
+        requires lists { lists.now ≡ map (changed_on change.now (changed (⟦<FacedTable as RangeTable>⟧.pairs self.old) change.now)) faces }
+        requires rises { IsCollection (changed (⟦<FacedTable as RangeTable>⟧.pairs self.old) change.now) }
+        requires few { length (changed (⟦<FacedTable as RangeTable>⟧.pairs self.old) change.now) ≤ 1000000 }
+        ensures pairs { OnOk result (⟦<FacedTable as RangeTable>⟧.pairs self.new
+            ≡ changed (⟦<FacedTable as RangeTable>⟧.pairs self.old) change.now) }
+        ensures stays { OnErr result (⟦<FacedTable as RangeTable>⟧.pairs self.new ≡ ⟦<FacedTable as RangeTable>⟧.pairs self.old) }
     {
-        let blocks = self.blocks_after(alloc, &new)?;
-        let NewParts { first, end, parts } = new;
+        let new = self.face_after(alloc, face, lists, change)?;
+        all_are_chunks(&self.heavy);
+        let first = self.faces[usize::from(face)];
+        self.put(alloc, new.on(first))?;
+        Ok(())
+    }
+
+    // What a change makes of all faces. O(p) for p parts, besides what each changed face takes.
+    fn faces_after(
+        &self,
+        alloc: Global,
+        lists: &[Option<HeldParts>; FACES],
+        change: &Change,
+    ) -> Result<AllFaces, OutOfMemory>
+        requires lists { lists.now ≡ map (changed_on change.now (changed (⟦<FacedTable as RangeTable>⟧.pairs self.now) change.now)) faces }
+        requires rises { IsCollection (changed (⟦<FacedTable as RangeTable>⟧.pairs self.now) change.now) }
+        requires few { length (changed (⟦<FacedTable as RangeTable>⟧.pairs self.now) change.now) ≤ 1000000 }
+        ensures layout { IfOk result (λ all. IsLayout (spans_of all.parts.items) all.heavy all.overs.items) }
+        ensures faces { IfOk result (λ all. BeginFaces (spans_of all.parts.items)) }
+        ensures pairs { IfOk result (λ all. together (held_in (spans_of all.parts.items)) (heavy_in all.heavy)
+            ≡ changed (⟦<FacedTable as RangeTable>⟧.pairs self.now) change.now) }
+    {
+        let mut all = AllFaces::none(alloc, self.part_count())?;
+        for face in 0..6u8 {
+            let new = self.face_after(alloc, face, lists, change)?;
+            let before = self.face(face);
+            all.push(new, before.parts, before.overs)?;
+        }
+        Ok(all)
+    }
+
+    // What a change makes of a face: if it has an entry there, `lists` has the face's pairs then.
+    fn face_after(
+        &self,
+        alloc: Global,
+        face: u8,
+        lists: &[Option<HeldParts>; FACES],
+        change: &Change,
+    ) -> Result<NewFace, OutOfMemory>
+        requires six { face < 6 }
+        requires lists { lists.now ≡ map (changed_on change.now (changed (⟦<FacedTable as RangeTable>⟧.pairs self.now) change.now)) faces }
+        requires few { length (changed (⟦<FacedTable as RangeTable>⟧.pairs self.now) change.now) ≤ 1000000 }
+        ensures face { IfOk result (λ new. new.face ≡ face) }
+        ensures with { IfOk result (λ new. IsFaceWith face (held_on face (changed (⟦<FacedTable as RangeTable>⟧.pairs self.now) change.now))
+            (parts_of_face (spans_of self.now.parts.items) self.now.faces face) (of_face self.now.overs.items self.now.faces face)
+            new.parts.first new.parts.end (spans_of new.parts.parts.items) new.overs.items new.heavy) }
+        ensures before { IfOk result (λ new. 0 < new.parts.first → new.heavy ≡ chunks_on self.now.heavy face) }
+        ensures behind { IfOk result (λ new. new.parts.end < length (parts_of_face (spans_of self.now.parts.items) self.now.faces face)
+            → new.heavy ≡ chunks_on self.now.heavy face) }
+    {
+        let before = self.face(face);
+        match &lists[usize::from(face)] {
+            Some(list) => before.after(alloc, list, entries_on(change.entries(), face)),
+            None => before.unchanged(alloc),
+        }
+    }
+
+    // A face: its parts and the heavy pairs over them.
+    fn face(&self, face: u8) -> Face<'_>
+        requires { face < 6 }
+        ensures face { result.face ≡ face }
+        ensures parts { spans_of result.parts.now ≡ parts_of_face (spans_of self.now.parts.items) self.now.faces face }
+        ensures overs { result.overs.now ≡ of_face self.now.overs.items self.now.faces face }
+        ensures heavy { result.heavy.now ≡ chunks_on self.now.heavy face }
+        ensures layered { IsFaceLayered face result.heavy.now (spans_of result.parts.now) result.overs.now }
+        ensures pairs { together (held_in (spans_of result.parts.now)) (all_of result.heavy.now)
+            ≡ held_on face (⟦<FacedTable as RangeTable>⟧.pairs self.now) }
+    {
+        all_are_chunks(&self.heavy);
+        let at = usize::from(face);
+        Face {
+            face,
+            parts: self.parts_on(at),
+            overs: self.overs_on(at),
+            heavy: &self.heavy[at],
+        }
+    }
+
+    // Puts what a change makes of a face into its place. O(p) for p parts. `OutOfMemory` if a growth is refused.
+    fn put(&mut self, alloc: Global, new: NewFace) -> Result<(), OutOfMemory>
+        requires face { new.face < 6 }
+        requires order { new.parts.first ≤ new.parts.end }
+        requires within { new.parts.end ≤ length self.old.parts.items }
+        requires overs { length new.overs.items ≡ length new.parts.parts.items }
+        requires layout { IsLayout
+            (with_parts (spans_of self.old.parts.items) new.parts.first new.parts.end (spans_of new.parts.parts.items))
+            (set self.old.heavy new.face new.heavy)
+            (take new.parts.first self.old.overs.items ++ (new.overs.items ++ drop new.parts.end self.old.overs.items)) }
+        requires faces { BeginFaces (with_parts (spans_of self.old.parts.items) new.parts.first new.parts.end (spans_of new.parts.parts.items)) }
+        requires front { covered (heavy_in (set self.old.heavy new.face new.heavy)) (take new.parts.first (spans_of self.old.parts.items))
+            ≡ covered (heavy_in self.old.heavy) (take new.parts.first (spans_of self.old.parts.items)) }
+        requires back { covered (heavy_in (set self.old.heavy new.face new.heavy)) (drop new.parts.end (spans_of self.old.parts.items))
+            ≡ covered (heavy_in self.old.heavy) (drop new.parts.end (spans_of self.old.parts.items)) }
+        ensures put { OnOk result (spans_of self.new.parts.items
+            ≡ with_parts (spans_of self.old.parts.items) new.parts.first new.parts.end (spans_of new.parts.parts.items)) }
+        ensures heavy { OnOk result (self.new.heavy ≡ set self.old.heavy new.face new.heavy) }
+        ensures stay { OnErr result (spans_of self.new.parts.items ≡ spans_of self.old.parts.items) }
+        ensures heavy_stay { OnErr result (self.new.heavy ≡ self.old.heavy) }
+    {
+        let blocks = self.blocks_after(alloc, &new.parts)?;
+        let NewFace {
+            face,
+            parts: NewParts { first, end, parts },
+            overs,
+            heavy,
+        } = new;
         let count = parts.len();
         let starts = begins_of(alloc, &parts)?;
         let offsets = uncounted(alloc, count)?;
-        self.parts.reserve(count)?;
-        self.starts.reserve(count)?;
-        self.offsets.reserve(count)?;
+        self.make_room(count)?;
         put_between(&mut self.parts, first, end, parts);
+        put_between(&mut self.overs, first, end, overs);
         put_between(&mut self.starts, first, end, starts);
         put_between(&mut self.offsets, first, end, offsets);
-        self.count = count_from(&self.parts, first, first + count, &mut self.offsets);
+        set_face(&mut self.heavy, face, heavy);
+        let layout = Layout {
+            parts: &self.parts,
+            overs: &self.overs,
+            heavy: &self.heavy,
+        };
+        self.count = layout.count_from(first, first + count, &mut self.offsets);
         self.faces = first_parts(&self.starts);
         self.blocks.give_way(blocks, &self.starts);
+        Ok(())
+    }
+
+    // Room for so many parts more in each list. `OutOfMemory` if a growth is refused.
+    fn make_room(&mut self, count: usize) -> Result<(), OutOfMemory>
+        ensures parts { self.new.parts.items ≡ self.old.parts.items }
+        ensures overs { self.new.overs.items ≡ self.old.overs.items }
+        ensures starts { self.new.starts.items ≡ self.old.starts.items }
+        ensures offsets { self.new.offsets.items ≡ self.old.offsets.items }
+        ensures heavy { self.new.heavy ≡ self.old.heavy }
+        ensures stay { self.new.blocks ≡ self.old.blocks }
+        ensures room { OnOk result (length self.new.parts.items + count ≤ vec_capacity self.new.parts) }
+        ensures overs_room { OnOk result (length self.new.overs.items + count ≤ vec_capacity self.new.overs) }
+        ensures starts_room { OnOk result (length self.new.starts.items + count ≤ vec_capacity self.new.starts) }
+        ensures offsets_room { OnOk result (length self.new.offsets.items + count ≤ vec_capacity self.new.offsets) }
+    {
+        self.parts.reserve(count)?;
+        self.overs.reserve(count)?;
+        self.starts.reserve(count)?;
+        self.offsets.reserve(count)?;
         Ok(())
     }
 
@@ -309,6 +477,8 @@ impl FacedTable {
         let starts = Vec::from_slice(alloc, &self.starts)?;
         let offsets = Vec::from_slice(alloc, &self.offsets)?;
         let blocks = self.blocks.copied(alloc)?;
+        let overs = Vec::from_slice(alloc, &self.overs)?;
+        let heavy = self.heavy.clone()?;
         Ok(FacedTable {
             parts,
             offsets,
@@ -316,20 +486,32 @@ impl FacedTable {
             blocks,
             faces: self.faces,
             count: self.count,
+            heavy,
+            overs,
         })
     }
 
-    // The table of these parts. O(p). `OutOfMemory` if a growth is refused.
-    fn together(alloc: Global, parts: Vec<Arc<SpanTable>>) -> Result<FacedTable, OutOfMemory>
-        requires neighbours { AreNeighbours 1 (spans_of parts.items) leaf_end }
+    // The table of these parts and heavy pairs. O(p) for p parts. `OutOfMemory` if a growth is refused.
+    fn together(
+        alloc: Global,
+        parts: Vec<Arc<SpanTable>>,
+        overs: Vec<Option<HeavyPlace>>,
+        heavy: [HeavyPairs; FACES],
+    ) -> Result<FacedTable, OutOfMemory>
+        requires layout { IsLayout (spans_of parts.items) heavy overs.items }
         requires faces { BeginFaces (spans_of parts.items) }
-        requires few { length (held_in (spans_of parts.items)) ≤ 1000000 }
-        ensures { IfOk result (λ table. spans_of table.parts.items ≡ spans_of parts.items) }
+        ensures parts { IfOk result (λ table. spans_of table.parts.items ≡ spans_of parts.items) }
+        ensures heavy { IfOk result (λ table. table.heavy ≡ heavy) }
     {
         let starts = begins_of(alloc, &parts)?;
         let mut offsets = uncounted(alloc, parts.len())?;
         let mut blocks = Blocks::room(alloc, parts.len())?;
-        let count = count_from(&parts, 0, parts.len(), &mut offsets);
+        let layout = Layout {
+            parts: &parts,
+            overs: &overs,
+            heavy: &heavy,
+        };
+        let count = layout.count_from(0, parts.len(), &mut offsets);
         let faces = first_parts(&starts);
         blocks.count(&starts);
         Ok(FacedTable {
@@ -339,6 +521,8 @@ impl FacedTable {
             blocks,
             faces,
             count,
+            heavy,
+            overs,
         })
     }
 
@@ -351,6 +535,25 @@ impl FacedTable {
     {
         &self.parts[self.faces[face]..self.faces[face + 1]]
     }
+
+    // For each part of a face the place that leads to the heavy pairs over it.
+    fn overs_on(&self, face: usize) -> &[Option<HeavyPlace>]
+        requires { face < 6 }
+        ensures { result.now ≡ of_face self.now.overs.items self.now.faces face }
+    {
+        self.places_are_listed(face);
+        let first = self.faces[face];
+        let (_, later) = self.overs.split_at(first);
+        let (own, _) = later.split_at(self.faces[face + 1] - first);
+        own
+    }
+
+    // The first part of a face isn't behind that of the next face, and there is an element of `overs` for each part before that.
+    fn places_are_listed(&self, face: usize)
+        requires { face < 6 }
+        ensures rise { slice_index_or self.now.faces face 0 ≤ slice_index_or self.now.faces (face + 1) 0 }
+        ensures within { slice_index_or self.now.faces (face + 1) 0 ≤ length self.now.overs.items }
+    {}
 
     // How many parts there are.
     pub(crate) fn part_count(&self) -> usize
@@ -387,7 +590,7 @@ impl FacedTable {
     fn own_found(&self, leaf: CellId) -> (usize, usize)
         ensures range { HasRange (spans_of self.now.parts.items) result.0 result.1 }
         ensures found { IsFound
-            (joined_ranges (spans_of self.now.parts.items))
+            (joined_ranges (covered (heavy_in self.now.heavy) (spans_of self.now.parts.items)))
             (place_on self.now.offsets.items result.0 result.1)
             (raw_of leaf) }
     {
@@ -446,9 +649,9 @@ impl FacedTable {
     fn row_at(&self, part: usize, own: usize) -> RangeRow
         requires { HasOwn self.now.offsets.items self.now.count part own }
         ensures start { result.start
-            ≡ (range_at (joined_ranges (spans_of self.now.parts.items)) (place_on self.now.offsets.items part own)).start }
+            ≡ (range_at (joined_ranges (covered (heavy_in self.now.heavy) (spans_of self.now.parts.items))) (place_on self.now.offsets.items part own)).start }
         ensures limit { result.limit
-            ≡ (range_at (joined_ranges (spans_of self.now.parts.items)) (place_on self.now.offsets.items part own)).limit }
+            ≡ (range_at (joined_ranges (covered (heavy_in self.now.heavy) (spans_of self.now.parts.items))) (place_on self.now.offsets.items part own)).limit }
     {
         let row = self.span(part).range(own);
         let start = if own == 0 {
@@ -468,9 +671,9 @@ impl FacedTable {
         requires next { HasRange (spans_of self.now.parts.items) part (own + 1) }
         requires later { 0 < own }
         ensures start { result.start
-            ≡ (range_at (joined_ranges (spans_of self.now.parts.items)) (place_on self.now.offsets.items part own)).start }
+            ≡ (range_at (joined_ranges (covered (heavy_in self.now.heavy) (spans_of self.now.parts.items))) (place_on self.now.offsets.items part own)).start }
         ensures limit { result.limit
-            ≡ (range_at (joined_ranges (spans_of self.now.parts.items)) (place_on self.now.offsets.items part own)).limit }
+            ≡ (range_at (joined_ranges (covered (heavy_in self.now.heavy) (spans_of self.now.parts.items))) (place_on self.now.offsets.items part own)).limit }
     {
         let span = self.span(part);
         RangeRow {
@@ -481,14 +684,78 @@ impl FacedTable {
 
     // The place of a range's innermost pair, by the range's part and its place in that part's table.
     #[inline]
-    fn first_at(&self, part: usize, own: usize) -> Option<PartPlace>
+    fn first_at(&self, part: usize, own: usize) -> Option<FacedPlace>
         requires { HasRange (spans_of self.now.parts.items) part own }
-        ensures { LeadsTo (chain_from (spans_of self.now.parts.items))
+        ensures { LeadsTo (faced_chain (spans_of self.now.parts.items) self.now.heavy)
             result
-            (range_at (joined_ranges (spans_of self.now.parts.items)) (place_on self.now.offsets.items part own)).contents }
+            (range_at (joined_ranges (covered (heavy_in self.now.heavy) (spans_of self.now.parts.items))) (place_on self.now.offsets.items part own)).contents }
     {
         match self.span(part).first(own) {
-            Some(node) => Some(PartPlace { part, node }),
+            Some(node) => Some(FacedPlace::Light(PartPlace { part, node })),
+            None => self.over(part),
+        }
+    }
+
+    // The light pair at a place, with its count.
+    #[inline]
+    fn light_at(&self, place: PartPlace) -> Held
+        requires { IsPlace (faced_chain (spans_of self.now.parts.items) self.now.heavy) (Light place) }
+        ensures { faced_chain (spans_of self.now.parts.items) self.now.heavy (Light place)
+            ≡ result ∷ drop 1 (faced_chain (spans_of self.now.parts.items) self.now.heavy (Light place)) }
+    {
+        self.span(place.part).held_at(place.node)
+    }
+
+    // The heavy pair at a place, with its count.
+    #[inline]
+    fn heavy_at(&self, place: FaceHeavyPlace) -> Held
+        requires { IsPlace (faced_chain (spans_of self.now.parts.items) self.now.heavy) (Heavy place) }
+        ensures { faced_chain (spans_of self.now.parts.items) self.now.heavy (Heavy place)
+            ≡ result ∷ drop 1 (faced_chain (spans_of self.now.parts.items) self.now.heavy (Heavy place)) }
+    {
+        self.heavy[place.face].held_at(place.place)
+    }
+
+    // The place of the next pair outwards of a light one.
+    #[inline]
+    fn outer_of(&self, place: PartPlace) -> Option<FacedPlace>
+        requires { IsPlace (faced_chain (spans_of self.now.parts.items) self.now.heavy) (Light place) }
+        ensures { LeadsTo (faced_chain (spans_of self.now.parts.items) self.now.heavy)
+            result
+            (drop 1 (faced_chain (spans_of self.now.parts.items) self.now.heavy (Light place))) }
+    {
+        let part = place.part;
+        match self.span(part).outer(place.node) {
+            Some(node) => Some(FacedPlace::Light(PartPlace { part, node })),
+            None => self.over(part),
+        }
+    }
+
+    // The place of the next pair outwards of a heavy one.
+    #[inline]
+    fn outer_of_heavy(&self, place: FaceHeavyPlace) -> Option<FacedPlace>
+        requires { IsPlace (faced_chain (spans_of self.now.parts.items) self.now.heavy) (Heavy place) }
+        ensures { LeadsTo (faced_chain (spans_of self.now.parts.items) self.now.heavy)
+            result
+            (drop 1 (faced_chain (spans_of self.now.parts.items) self.now.heavy (Heavy place))) }
+    {
+        let face = place.face;
+        match self.heavy[face].outer(place.place) {
+            Some(place) => Some(FacedPlace::Heavy(FaceHeavyPlace { face, place })),
+            None => None,
+        }
+    }
+
+    // The place of the innermost heavy pair over a part.
+    #[inline]
+    fn over(&self, part: usize) -> Option<FacedPlace>
+        requires { part < length (spans_of self.now.parts.items) }
+        ensures { LeadsTo (faced_chain (spans_of self.now.parts.items) self.now.heavy)
+            result
+            (contents_at (table_of (spans_of self.now.parts.items) part).from (heavy_in self.now.heavy)) }
+    {
+        match FaceHeavyPlace::there(self.overs[part], self.starts[part]) {
+            Some(place) => Some(FacedPlace::Heavy(place)),
             None => None,
         }
     }
@@ -496,13 +763,13 @@ impl FacedTable {
     // The leaves of a range, the place of its innermost pair and its part, if no part is at hand. What reads by notes comes here seldom.
     #[cold]
     #[inline(never)]
-    fn read_far(&self, k: usize) -> (RangeRow, Option<PartPlace>, usize)
-        requires { k < length (joined_ranges (spans_of self.now.parts.items)) }
-        ensures start { result.0.start ≡ (range_at (joined_ranges (spans_of self.now.parts.items)) k).start }
-        ensures limit { result.0.limit ≡ (range_at (joined_ranges (spans_of self.now.parts.items)) k).limit }
-        ensures first { LeadsTo (chain_from (spans_of self.now.parts.items))
+    fn read_far(&self, k: usize) -> (RangeRow, Option<FacedPlace>, usize)
+        requires { k < length (joined_ranges (covered (heavy_in self.now.heavy) (spans_of self.now.parts.items))) }
+        ensures start { result.0.start ≡ (range_at (joined_ranges (covered (heavy_in self.now.heavy) (spans_of self.now.parts.items))) k).start }
+        ensures limit { result.0.limit ≡ (range_at (joined_ranges (covered (heavy_in self.now.heavy) (spans_of self.now.parts.items))) k).limit }
+        ensures first { LeadsTo (faced_chain (spans_of self.now.parts.items) self.now.heavy)
             result.1
-            (range_at (joined_ranges (spans_of self.now.parts.items)) k).contents }
+            (range_at (joined_ranges (covered (heavy_in self.now.heavy) (spans_of self.now.parts.items))) k).contents }
     {
         let (part, own) = self.own_place(k);
         (self.row_at(part, own), self.first_at(part, own), part)

@@ -2,11 +2,13 @@
 ghost use Rattle.s2ix_table.specs.ReadingLaws.{ChangedFacesTakeFewReads, UnchangedFacesStay};
 ghost use Rattle.std.specs.Prelude.{◌≡◌, ◌↔◌, IsTrue, ◌+◌, ◌*◌, ◌≤◌, length};
 ghost use Rattle.s2ix_table_spans.specs.Once.{KeepsOnce};
+ghost use Rattle.s2ix_table.specs.declared.part_place.FaceHeavyPlace.{FaceHeavyPlace};
+ghost use Rattle.s2ix_table.specs.declared.part_place.FacedPlace.{FacedPlace};
 ghost use Rattle.s2ix_table.specs.declared.part_place.PartPlace.{PartPlace};
 
 use crate::chain_table::ChainTable;
 use crate::faced_table::FacedTable;
-use crate::part_place::PartPlace;
+use crate::part_place::{FaceHeavyPlace, FacedPlace, PartPlace};
 use crate::shares_chains::SharesChains;
 use s2ix_table_queries::RangeTable;
 pub use s2ix_table_queries::laws::{
@@ -43,13 +45,33 @@ pub fn chain_table_has_few_ranges(table: &ChainTable)
 }
 
 /// Two places in a `FacedTable` are equal exactly if they are the same.
+pub fn equal_faced_places_are_one()
+    ensures { (a b : FacedPlace) → IsTrue (⟦<FacedPlace as PartialEq>⟧.eq a b) ↔ (a ≡ b) }
+{}
+
+/// A clone of a place in a `FacedTable` is the same.
+pub fn cloned_faced_places_are_the_same()
+    ensures { (a copy : FacedPlace) → ⟦<FacedPlace as Clone>⟧.is_clone a copy ↔ (copy ≡ a) }
+{}
+
+/// Two places of light pairs in a `FacedTable` are equal exactly if they are the same.
 pub fn equal_part_places_are_one()
     ensures { (a b : PartPlace) → IsTrue (⟦<PartPlace as PartialEq>⟧.eq a b) ↔ (a ≡ b) }
 {}
 
-/// A clone of a place in a `FacedTable` is the same.
+/// A clone of a place of a light pair in a `FacedTable` is the same.
 pub fn cloned_part_places_are_the_same()
     ensures { (a copy : PartPlace) → ⟦<PartPlace as Clone>⟧.is_clone a copy ↔ (copy ≡ a) }
+{}
+
+/// Two places of heavy pairs in a `FacedTable` are equal exactly if they are the same.
+pub fn equal_face_heavy_places_are_one()
+    ensures { (a b : FaceHeavyPlace) → IsTrue (⟦<FaceHeavyPlace as PartialEq>⟧.eq a b) ↔ (a ≡ b) }
+{}
+
+/// A clone of a place of a heavy pair in a `FacedTable` is the same.
+pub fn cloned_face_heavy_places_are_the_same()
+    ensures { (a copy : FaceHeavyPlace) → ⟦<FaceHeavyPlace as Clone>⟧.is_clone a copy ↔ (copy ≡ a) }
 {}
 
 /// A `FacedTable` of n pairs has at most 2 * n + 1 ranges.

@@ -1,8 +1,9 @@
 //! Range tables: which labelled cells of a collection meet a union of cells (S2's `S2CellIndex`).
 //!
 //! The cells of a bag cut the curve into ranges of leaves over which the same pairs lie. A [`RangeTable`] keeps these ranges in order, and
-//! for each of them a chain of the pairs over it, the innermost cell first. A table is built of a bag and never changes. A query
-//! reads the ranges that its target meets, and O(log n) more for each cell of the target; it allocates only for the list that it returns.
+//! for each of them a chain of the pairs over it, the innermost cell first. A table is built of a bag; only a [`FacedTable`] takes changes.
+//! A query reads the ranges that its target meets, and O(log n) more for each cell of the target; it allocates only for the list that it
+//! returns.
 //!
 //! ```
 //! let table = ChainTable::build(alloc, &bag)?;
@@ -24,23 +25,31 @@
 //! | What did a query read? | a [`Cost`], from `visit_counted`, or from a [`Meter`] after a [`walk`] | as `visit` |
 //!
 //! A table of n pairs has at most 2 * n + 1 ranges. The ranges of a [`ChainTable`] share their chains, so that it has each pair once.
-//! A [`FacedTable`] is made of parts over neighbouring leaves, each with shared chains of its own, and makes anew only the parts that a change
-//! touches ([`FacedTable::rebuilt`], over a [`BagReader`]): a store keeps one. [`CopiedTable`] has a list for each range, and is slow to build:
-//! tests compare the others with it.
+//! A [`FacedTable`] is made of parts over neighbouring leaves, each with shared chains of its own, and makes anew only the parts that a
+//! change touches ([`FacedTable::rebuild`], over a [`BagReader`]): a store keeps one. Where a part would become too long, the cells within
+//! which more pairs lie than a part should have are *heavy*: their pairs lie in chunks over the parts, so one label over a whole face makes
+//! no part longer. [`CopiedTable`] has a list for each range, and is slow to build: tests compare the others with it.
 //!
 //! The crates below this one: `s2ix_table_walk` defines the ranges of a bag and what meets a target, finds it, and counts what it reads;
 //! `s2ix_table_queries` has the trait with its queries, and `CopiedTable`; `s2ix_table_spans` builds the shared chains over a span of
-//! leaves. Here are the readers of a bag, and the tables that share chains.
+//! leaves; `s2ix_table_heavy` keeps the pairs of heavy cells. Here are the readers of a bag, and the tables that share chains.
 #![tactic(auto)]
 
 mod bag_reader;
 mod blocks;
 mod chain_table;
 mod changes;
+mod chunks_after;
 mod counting;
 mod entries_on;
+mod face_after;
+mod face_parts;
 mod faced_table;
+mod heavy_after;
+mod heavy_pairs;
 pub mod laws;
+mod layers_after;
+mod light_after;
 mod new_parts;
 mod offset;
 mod pair_reader;
@@ -49,6 +58,7 @@ mod parts;
 mod parts_changed;
 mod read_faces;
 mod shares_chains;
+mod split;
 mod starts;
 mod tables;
 
@@ -58,10 +68,11 @@ pub use changes::{changed_face_count, changed_faces};
 pub use faced_table::FacedTable;
 pub use new_parts::NewParts;
 pub use pair_reader::PairReader;
-pub use part_place::PartPlace;
+pub use part_place::{FaceHeavyPlace, FacedPlace, PartPlace};
 pub use parts::parts_over;
 pub use parts_changed::parts_after;
 pub use read_faces::{read_changed, read_face, read_list};
+pub use s2ix_table_heavy::HeavyPlace;
 pub use s2ix_table_queries::{
     ChainIter, CopiedPlace, CopiedTable, Meter, RangeIter, RangeTable, Stretch, Visit, chain_at,
     contents, ranges,

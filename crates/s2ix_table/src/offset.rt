@@ -1,8 +1,11 @@
 //! Where the ranges of each part are among the joined ones.
 ghost use Rattle.std.specs.Prelude.{◌≡◌, ◌+◌, ◌<◌, ◌≤◌, ◌++◌, drop, length, map, slice_index_or, take};
+ghost use Rattle.s2ix_bag_pairs.specs.Collection.{Collection};
 ghost use Rattle.s2ix_table_spans.specs.SpanTable.{IsSpanTable};
 ghost use Rattle.s2ix_table_spans.specs.Starts.{IsLastStart};
-ghost use Rattle.s2ix_table.specs.Offsets.{AreMovable, moved, offset_after, offset_at, places_of};
+ghost use Rattle.s2ix_table.specs.Layers.{with_over};
+ghost use Rattle.s2ix_table.specs.Layered.{AreTold};
+ghost use Rattle.s2ix_table.specs.Offsets.{AreMovable, is_joined, moved, offset_after, offset_at, places_of};
 
 use s2ix_table_spans::SpanTable;
 use s2ix_table_spans::laws::ranges_are_those_of_the_span;
@@ -19,10 +22,13 @@ impl Offset {
     // That of the first part of all.
     pub(crate) const FIRST: Offset = Offset { place: 0, start: 1 };
 
-    // The offset of `next`, if this is the offset of `table`, the one before it. O(1).
-    pub(crate) fn after(self, table: &SpanTable, next: &SpanTable) -> Offset
+    // The offset of `next`, if this is the offset of `table`, the one before it. `same_over` tells whether both lie under the same heavy
+    // pairs. O(1).
+    pub(crate) fn after(self, table: &SpanTable, next: &SpanTable, same_over: bool) -> Offset
         requires few { self.place ≤ 100000000 }
-        ensures offset { result ≡ offset_after self table.now.ranges next.now.ranges }
+        requires neighbours { table.now.to ≡ next.now.from }
+        ensures offset { (over next_over : Collection) → AreTold table.now.held next.now.held over next_over same_over
+            → result ≡ offset_after self (with_over over table.now.ranges) (with_over next_over next.now.ranges) }
         ensures rises { self.place ≤ result.place }
         ensures few { result.place ≤ self.place + 2000001 }
         ensures table { IsSpanTable table.now }
@@ -31,23 +37,37 @@ impl Offset {
         ranges_are_those_of_the_span(table);
         ranges_are_those_of_the_span(next);
         let last = table.range_count() - 1;
-        if table.first_at_end().is_none() && next.first_at_start().is_none() {
-            let start = if last == 0 {
-                self.start
-            } else {
-                table.last_start()
-            };
-            Offset {
-                place: self.place + last,
-                start,
-            }
-        } else {
-            Offset {
+        if !are_joined(table, next, same_over) {
+            return Offset {
                 place: self.place + last + 1,
                 start: next.from(),
-            }
+            };
+        }
+        let start = if last == 0 {
+            self.start
+        } else {
+            table.last_start()
+        };
+        Offset {
+            place: self.place + last,
+            start,
         }
     }
+}
+
+// Whether the last range of `table` and the first one of `next` are one: if nothing light lies over them, and they lie under the same heavy
+// pairs. O(1).
+fn are_joined(table: &SpanTable, next: &SpanTable, same_over: bool) -> bool
+    requires neighbours { table.now.to ≡ next.now.from }
+    ensures { (over next_over : Collection) → AreTold table.now.held next.now.held over next_over same_over
+        → result ≡ is_joined (with_over over table.now.ranges) (with_over next_over next.now.ranges) }
+{
+    ranges_are_those_of_the_span(table);
+    ranges_are_those_of_the_span(next);
+    if !same_over || table.first_at_end().is_some() {
+        return false;
+    }
+    next.first_at_start().is_none()
 }
 
 // The part that has a range: that of the last offset whose place is not after the range's. O(log p) for p parts.

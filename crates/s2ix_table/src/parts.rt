@@ -67,7 +67,7 @@ pub(crate) fn seams_before(
 }
 
 // The least leaf number at which a cell begins, or `most` if none begins before.
-fn least_begin(held: &[FlatHeld], most: u64) -> u64
+pub(crate) fn least_begin(held: &[FlatHeld], most: u64) -> u64
     requires { most % 2 ≡ 1 }
     ensures odd { result % 2 ≡ 1 }
     ensures by { result ≤ most }
@@ -81,7 +81,7 @@ fn least_begin(held: &[FlatHeld], most: u64) -> u64
 }
 
 // The greatest leaf number at which a cell ends, or `least` if none ends after.
-fn greatest_end(held: &[FlatHeld], least: u64) -> u64
+pub(crate) fn greatest_end(held: &[FlatHeld], least: u64) -> u64
     ensures from { least ≤ result }
     ensures ends { EndsBy held.now result }
 {

@@ -17,11 +17,11 @@ use s2ix_table_spans::SpanTable;
 use std::alloc::Global;
 use std::sync::Arc;
 
-/// What a change makes of the parts `before` of a table, which together go over the leaves from the number `from` up to `to`. `held` is what
-/// the entries make of their pairs, in lists, each before the next one. The parts on both sides of all entries stay. Between them, a part
-/// that no entry's cell touches is shared; what the others hold is made anew, together with parts that a list reaches into. No clause says
-/// which parts stay, only the bench shows it. O(log p + q + m + k) for p parts, q of them from the first entry to the last one, m entries
-/// and the k pairs of the parts made anew. `OutOfMemory` if a growth is refused, or a part is shared too often.
+/// What a change makes of the parts `before` of a table, which together go over the leaves from the number `from` up to `to`. `held` is
+/// what the entries make of their pairs, in lists, each before the next one. The parts on both sides of all entries stay. Between them, a
+/// part that no entry's cell touches is shared; what the others hold is made anew, together with parts that a list reaches into. No clause
+/// says which parts stay, only the bench shows it. O(log p + q + m + k) for p parts, q of them from the first entry to the last one, m
+/// entries and the k pairs of the parts made anew. `OutOfMemory` if a growth is refused, or a part is shared too often.
 pub fn parts_after(
     alloc: Global,
     before: &[Arc<SpanTable>],
@@ -351,7 +351,7 @@ impl<'a> Span<'a> {
 }
 
 // The number of the last table that begins by a leaf number, or 0 if only the first one may. O(log p) for p tables.
-fn last_by(tables: &[Arc<SpanTable>], leaf: u64) -> usize
+pub(crate) fn last_by(tables: &[Arc<SpanTable>], leaf: u64) -> usize
     ensures { 0 < result → result < length tables.now }
 {
     let mut low = 0;

@@ -94,11 +94,45 @@ pub fn read_changed<B: PairReader>(
     ensures refused { HasRead 0
         (changed_count change.now (B.shown reader.old) + 6 * two_searches (B.shown reader.old)) (B.spent reader.old) (B.spent reader.new) }
 {
+    let lists = read_changed_lists(alloc, reader, change)?;
+    Ok([
+        flat_list(alloc, &lists[0])?,
+        flat_list(alloc, &lists[1])?,
+        flat_list(alloc, &lists[2])?,
+        flat_list(alloc, &lists[3])?,
+        flat_list(alloc, &lists[4])?,
+        flat_list(alloc, &lists[5])?,
+    ])
+}
+
+// The pairs of a list, if there is one. O(n) for n pairs. `OutOfMemory` if a growth is refused.
+fn flat_list(alloc: Global, list: &Option<HeldParts>) -> Result<Option<Vec<FlatHeld>>, OutOfMemory>
+    ensures { IfOk result (λ flat. option_map (λ held. held.items) flat ≡ list.now) }
+{
+    match list {
+        Some(list) => Ok(Some(list.flat(alloc)?)),
+        None => Ok(None),
+    }
+}
+
+/// The same in lists that others may keep too: of a bag they are the bag's own. `OutOfMemory` if a growth is refused, or a list is shared
+/// too often, after no more reads than that.
+pub(crate) fn read_changed_lists<B: PairReader>(
+    alloc: Global,
+    reader: &mut B,
+    change: &Change,
+) -> Result<[Option<HeldParts>; 6], OutOfMemory>
+    ensures pairs { IfOk result (λ read. read ≡ map (changed_on change.now (B.shown reader.old)) faces) }
+    ensures same { B.shown reader.new ≡ B.shown reader.old }
+    ensures reads { OnOk result (AreChangedRead change.now (B.shown reader.old) (B.spent reader.old) (B.spent reader.new)) }
+    ensures refused { HasRead 0
+        (changed_count change.now (B.shown reader.old) + 6 * two_searches (B.shown reader.old)) (B.spent reader.old) (B.spent reader.new) }
+{
     let changed = changed_faces(change);
     let mut read = [None, None, None, None, None, None];
     for face in 0..6u8 {
         if changed[usize::from(face)] {
-            read[usize::from(face)] = Some(read_face(alloc, reader, face)?);
+            read[usize::from(face)] = Some(read_list(alloc, reader, face)?);
         }
     }
     Ok(read)

@@ -32,34 +32,36 @@ pub(crate) fn last_start(starts: &[u64], sample: &[u64], leaf: u64) -> usize
 pub(crate) fn last_of_sampled(starts: &[u64], sample: &[u64], leaf: u64) -> usize
     requires some { 0 < length starts.now }
     requires rises { AllPairs (λ a b. a < b) starts.now }
-    requires odd { (k : ℕ) → k < length starts.now → slice_index_or starts.now k 0 % 2 ≡ 1 }
     requires first { slice_index_or starts.now 0 0 ≤ leaf }
     requires sample { IsSample (length starts.now - 2) (drop 1 starts.now) sample.now }
     ensures { IsLastStart starts.now leaf result }
 {
     let among = sampled(starts, sample, leaf);
-    last_among(starts, leaf, among)
+    far_last(starts, leaf, among)
 }
 
-// The starts among which it is: a group of 16 if there is a sample, else all.
+// The starts among which it is: all if there is no sample, else a group of 16; the last group may have one more, or fewer.
 #[inline(always)]
 fn sampled(starts: &[u64], sample: &[u64], leaf: u64) -> Window
     requires some { 0 < length starts.now }
     requires rises { AllPairs (λ a b. a < b) starts.now }
-    requires odd { (k : ℕ) → k < length starts.now → slice_index_or starts.now k 0 % 2 ≡ 1 }
     requires first { slice_index_or starts.now 0 0 ≤ leaf }
     requires sample { IsSample (length starts.now - 2) (drop 1 starts.now) sample.now }
     ensures { IsAmong starts.now leaf result.first result.size }
 {
-    if sample.len() == 0 || leaf < sample[0] {
+    if sample.is_empty() {
         let size = starts.len();
+        return Window { first: 0, size };
+    }
+    if leaf < sample[0] {
+        let size = SAMPLE_STEP;
         return Window { first: 0, size };
     }
     let all = Window {
         first: 0,
         size: sample.len(),
     };
-    let group = last_among(sample, leaf, all);
+    let group = far_last(sample, leaf, all);
     let first = SAMPLE_STEP * (group + 1);
     if group + 1 < sample.len() {
         let size = SAMPLE_STEP;
@@ -70,7 +72,28 @@ fn sampled(starts: &[u64], sample: &[u64], leaf: u64) -> Window
     }
 }
 
-// The last of rising starts that is not after a leaf, if it is among some of them. No branch depends on a start.
+// The last of rising starts that is not after a leaf, if it is among some of them. Each step branches on a start, so that the processor asks
+// for the next one before it has this one: they are out of its cache.
+#[inline(always)]
+fn far_last(starts: &[u64], leaf: u64, among: Window) -> usize
+    requires rises { AllPairs (λ a b. a < b) starts.now }
+    requires among { IsAmong starts.now leaf among.first among.size }
+    ensures { IsLastStart starts.now leaf result }
+{
+    let mut first = among.first;
+    let mut size = among.size;
+    while size > 1 {
+        let half = size / 2;
+        if starts[first + half] <= leaf {
+            first += half;
+        }
+        size -= half;
+    }
+    first
+}
+
+// The last of rising starts that is not after a leaf, if it is among some of them. No branch depends on a start: they are in the
+// processor's cache.
 #[inline(always)]
 fn last_among(starts: &[u64], leaf: u64, among: Window) -> usize
     requires rises { AllPairs (λ a b. a < b) starts.now }

@@ -14,7 +14,7 @@ use crate::places::{last_of_sampled, last_start};
 use crate::sample::sample_of;
 use crate::splice::Before;
 use s2id_core::{CellId, OutOfMemory};
-use s2ix_bag_lists::HeldList;
+use s2ix_bag_lists::{FlatHeld, HeldList};
 use s2ix_bag_pairs::Held;
 use s2ix_table_walk::RangeRow;
 use std::alloc::Global;
@@ -135,6 +135,13 @@ impl SpanTable {
         ensures { result ≡ length self.now.held }
     {
         self.held.as_slice().len()
+    }
+
+    /// The pairs, in rising order. O(1).
+    pub fn held(&self) -> &[FlatHeld]
+        ensures { result.now ≡ self.now.held }
+    {
+        self.held.as_slice()
     }
 
     /// How many ranges there are: at least 1, at most 2 * n + 1. O(1).

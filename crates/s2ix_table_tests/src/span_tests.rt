@@ -103,6 +103,8 @@ fn has_rows(table: &SpanTable) -> bool
 fn table_of_a_face(rt: HostRuntime) {
     let table = face_table(rt.alloc(), "44:6:1 4c:1:1 5:3:1").expect(&rt, "a table");
     assert!(rt; table.pair_count() == 3);
+    assert!(rt; table.held().len() == 3);
+    assert!(rt; table.held().first().map(|h| h.held()) == held_of("44:6:1"));
     assert!(rt; has_rows(&table));
     ranges_are_those_of_the_span(&table);
 }

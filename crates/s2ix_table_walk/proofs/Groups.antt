@@ -52,7 +52,7 @@ group_fits hs ranges leaf first end groups t are many =
     (omega arith, range_fits hs ranges t (first + groups / 2 * 16) (omega arith))
 
 -- the groups from the middle on
-upper_groups : (ranges : List Range) (leaf first end groups : ℕ) → AreGroups ranges leaf first end groups → 1 < groups
+pub upper_groups : (ranges : List Range) (leaf first end groups : ℕ) → AreGroups ranges leaf first end groups → 1 < groups
     → (range_at ranges (first + groups / 2 * 16)).start ≤ leaf
     → AreGroups ranges leaf (first + groups / 2 * 16) end (groups - groups / 2)
 upper_groups ranges leaf first end groups are many by =
@@ -69,7 +69,7 @@ upper_groups ranges leaf first end groups are many by =
     }
 
 -- the groups before the middle, and one more if their number is odd
-lower_groups : (hs : Collection) (ranges : List Range) (leaf first end groups : ℕ) → IsRangeTable hs ranges
+pub lower_groups : (hs : Collection) (ranges : List Range) (leaf first end groups : ℕ) → IsRangeTable hs ranges
     → AreGroups ranges leaf first end groups → 1 < groups → leaf < (range_at ranges (first + groups / 2 * 16)).start
     → AreGroups ranges leaf first end (groups - groups / 2)
 lower_groups hs ranges leaf first end groups t are many after =
@@ -85,22 +85,6 @@ lower_groups hs ranges leaf first end groups t are many after =
           omega arith;
       stop = are.stop;
     }
-
--- what is left of some groups, by whether the one in the middle begins by the leaf
-pub groups_left : (hs : Collection) (ranges : List Range) (leaf first end groups one : ℕ) → IsRangeTable hs ranges
-    → AreGroups ranges leaf first end groups → 1 < groups → ((range_at ranges (first + groups / 2 * 16)).start ≤ leaf → one ≡ 1)
-    → (leaf < (range_at ranges (first + groups / 2 * 16)).start → one ≡ 0)
-    → AreGroups ranges leaf (first + groups / 2 * 16 * one) end (groups - groups / 2)
-groups_left hs ranges leaf first end groups one t are many by after =
-    elim (cases_lt leaf (range_at ranges (first + groups / 2 * 16)).start) [
-      | inl lt ↦
-          (let is : first + groups / 2 * 16 * one ≡ first = ap (λ (k : ℕ). first + groups / 2 * 16 * k) (after lt) ∙ (omega arith) in
-          subst (λ (k : ℕ). AreGroups ranges leaf k end (groups - groups / 2)) (sym is) (lower_groups hs ranges leaf first end groups t are many lt))
-      | inr le ↦
-          (let is : first + groups / 2 * 16 * one ≡ first + groups / 2 * 16 =
-          ap (λ (k : ℕ). first + groups / 2 * 16 * k) (by le) ∙ (omega arith) in
-          subst (λ (k : ℕ). AreGroups ranges leaf k end (groups - groups / 2)) (sym is) (upper_groups ranges leaf first end groups are many le))
-    ]
 
 -- the group that is left, or as much of it as is before the end
 pub group_left : (ranges : List Range) (leaf first end size : ℕ) → AreGroups ranges leaf first end 1 → size ≡ min 16 (end - first)

@@ -3,7 +3,7 @@ use Rattle.std.proofs.Common.{◌≡◌, ℕ, zero, suc, ◌+◌, ◌-◌, ◌*�
 use Rattle.std.proofs.Math.Nat.{pow-suc, max-eq_left, max-eq_right}
 use Rattle.std.proofs.lemmas.Bool.{cases_lt}
 use Rattle.s2ix_bag_pairs.specs.Collection.{Collection}
-use Rattle.s2ix_table_walk.specs.Table.{Range, range_at, leaf_end, IsRangeTable}
+use Rattle.s2ix_table_walk.specs.Table.{Range, range_at, leaf_end, IsFound, IsRangeTable}
 use Rattle.s2ix_table_walk.proofs.Tables.{limits_rise}
 use Rattle.s2ix_table_walk.specs.LeafWindows.{HaveLeaves}
 use Rattle.s2ix_table_walk.specs.Searching.{IsWindow}
@@ -23,6 +23,49 @@ window_to ranges leaf first end some within start limit =
     let e : first + (end - first) ≡ end = omega arith in
     let f = ap (λ k. (range_at ranges k).start) e in
     record { some = omega arith; within = omega arith; start = start; limit = λ more. let l = limit (omega arith) in omega arith }
+
+-- what is left of a window is its first half or its second one, and one range more if its size is odd
+pub lower_left : (hs : Collection) (ranges : List Range) (leaf first size : ℕ) → IsRangeTable hs ranges → IsWindow ranges leaf first size
+    → 1 < size → leaf < (range_at ranges (first + size / 2)).start → IsWindow ranges leaf first (size - size / 2)
+lower_left hs ranges leaf first size t w many lt =
+    let a = w.within in
+    let i : ℕ = first + size / 2 - 1 in
+    let j : ℕ = first + (size - size / 2) - 1 in
+    let e : i + 1 ≡ first + size / 2 = omega arith in
+    let f : j + 1 ≡ first + (size - size / 2) = omega arith in
+    let p = ap (λ k. (range_at ranges k).start) e in
+    let q = ap (λ k. (range_at ranges k).start) f in
+    record {
+      some = omega arith;
+      within = omega arith;
+      start = w.start;
+      limit = λ more. let r = starts_rise hs ranges i j t (omega arith) (omega arith) in omega arith;
+    }
+
+pub upper_left : (ranges : List Range) (leaf first size : ℕ) → IsWindow ranges leaf first size → 1 < size
+    → (range_at ranges (first + size / 2)).start ≤ leaf → IsWindow ranges leaf (first + size / 2) (size - size / 2)
+upper_left ranges leaf first size w many le =
+    let a = w.within in
+    let e : first + size / 2 + (size - size / 2) ≡ first + size = omega arith in
+    let f = ap (λ k. (range_at ranges k).start) e in
+    record { some = omega arith; within = omega arith; start = le; limit = λ more. let l = w.limit (omega arith) in omega arith }
+
+-- the one range that is left has the leaf
+pub found_alone : (hs : Collection) (ranges : List Range) (leaf first size : ℕ) → IsRangeTable hs ranges → IsWindow ranges leaf first size
+    → size ≤ 1 → leaf < leaf_end → IsFound ranges first leaf
+found_alone hs ranges leaf first size t w one within =
+    let some = w.some in
+    let fits = w.within in
+    let e : first + size ≡ first + 1 = omega arith in
+    let f = ap (λ k. (range_at ranges k).start) e in
+    record {
+      within = omega arith;
+      start = w.start;
+      limit = elim (cases_lt (first + 1) (length ranges)) [
+        | inl more ↦ (let n = t.next first (first + 1) refl more in let l = w.limit (omega arith) in omega arith)
+        | inr end ↦ (let l = t.last first (omega arith) in omega arith)
+      ];
+    }
 
 -- the first half of a window, and the second
 pub first_half : (ranges : List Range) (leaf first half : ℕ) → IsWindow ranges leaf first (half * 2) → 0 < half

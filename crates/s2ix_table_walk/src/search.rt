@@ -39,19 +39,35 @@ fn search<R: Reader>(reader: &mut R, leaf: u64, candidates: Candidates) -> Reach
         ≤ (R.spent reader.old).probes + binary_digits (length (R.shown reader.old).ranges + 1) }
 {
     let Candidates { among, known } = in_one_part(reader, leaf, candidates);
-    let group = in_one_group(reader, leaf, among);
-    let range = halve(reader, leaf, group);
+    let range = halve_part(reader, leaf, among);
     Reached { range, known }
 }
 
 // In a table of more ranges than this a search waits for memory at its probes.
 const FAR: usize = 32768;
 
+// The range that has a leaf, of some in one part: each probe halves those that are left.
+#[inline(always)]
+fn halve_part<R: Reader>(reader: &mut R, leaf: u64, among: Window) -> usize
+    requires within { leaf < leaf_end }
+    requires among { IsWindow (R.shown reader.old).ranges leaf among.first among.size }
+    ensures found { IsFound (R.shown reader.old).ranges result leaf }
+    ensures same { R.shown reader.new ≡ R.shown reader.old }
+    ensures looks { (R.spent reader.new).looks ≡ (R.spent reader.old).looks }
+    ensures kept { NoFewerProbes (R.spent reader.old) (R.spent reader.new) }
+    ensures probes { (R.spent reader.new).probes ≤ (R.spent reader.old).probes + binary_digits (among.size - 1) }
+{
+    if reader.range_count() <= FAR {
+        return halve(reader, leaf, among);
+    }
+    let group = in_one_group(reader, leaf, among);
+    halve_far(reader, leaf, group)
+}
+
 // Of some ranges of a large table at most 16, if halving groups of 16 takes no more probes than halving ranges, and else all of them. The
 // starts of these groups lie close together in memory.
 #[inline(always)]
 fn in_one_group<R: Reader>(reader: &mut R, leaf: u64, among: Window) -> Window
-    requires within { leaf < leaf_end }
     requires among { IsWindow (R.shown reader.old).ranges leaf among.first among.size }
     ensures window { IsWindow (R.shown reader.old).ranges leaf result.first result.size }
     ensures same { R.shown reader.new ≡ R.shown reader.old }
@@ -60,7 +76,7 @@ fn in_one_group<R: Reader>(reader: &mut R, leaf: u64, among: Window) -> Window
     ensures probes { (R.spent reader.new).probes + binary_digits (result.size - 1)
         ≤ (R.spent reader.old).probes + binary_digits (among.size - 1) }
 {
-    if among.size <= SAMPLE_STEP || reader.range_count() <= FAR {
+    if among.size <= SAMPLE_STEP {
         return among;
     }
     let first = reader.sampled_by(among.first);
@@ -77,7 +93,7 @@ fn in_one_group<R: Reader>(reader: &mut R, leaf: u64, among: Window) -> Window
 }
 
 // The first range of the group that has a leaf, of some groups of 16 ranges from one range on, the last of which ends with the range before
-// `end`. Each probe halves the groups that are left, and no branch depends on what is read.
+// `end`. Each probe halves the groups that are left by a branch, as `halve_far` does.
 #[inline(always)]
 fn halve_groups<R: Reader>(
     reader: &mut R,
@@ -86,8 +102,7 @@ fn halve_groups<R: Reader>(
     end: usize,
     groups: usize,
 ) -> usize
-    requires within { leaf < leaf_end }
-    requires among { AreGroups (R.shown reader.old).ranges leaf from end groups }
+    requires { AreGroups (R.shown reader.old).ranges leaf from end groups }
     ensures group { AreGroups (R.shown reader.old).ranges leaf result end 1 }
     ensures same { R.shown reader.new ≡ R.shown reader.old }
     ensures looks { (R.spent reader.new).looks ≡ (R.spent reader.old).looks }
@@ -98,13 +113,40 @@ fn halve_groups<R: Reader>(
     let mut left = groups;
     while left > 1 {
         let half = left / 2;
-        first += half * SAMPLE_STEP * begun(reader.sampled_start(first + half * SAMPLE_STEP), leaf);
+        if reader.sampled_start(first + half * SAMPLE_STEP) <= leaf {
+            first += half * SAMPLE_STEP;
+        }
         left -= half;
     }
     first
 }
 
-// The range that has a leaf: each probe halves those that are left, and no branch depends on what is read.
+// The range that has a leaf, in a large table: each probe halves those that are left by a branch, so that the processor asks for the next
+// range before it has this one.
+#[inline(always)]
+fn halve_far<R: Reader>(reader: &mut R, leaf: u64, among: Window) -> usize
+    requires within { leaf < leaf_end }
+    requires among { IsWindow (R.shown reader.old).ranges leaf among.first among.size }
+    ensures found { IsFound (R.shown reader.old).ranges result leaf }
+    ensures same { R.shown reader.new ≡ R.shown reader.old }
+    ensures looks { (R.spent reader.new).looks ≡ (R.spent reader.old).looks }
+    ensures kept { NoFewerProbes (R.spent reader.old) (R.spent reader.new) }
+    ensures probes { (R.spent reader.new).probes ≤ (R.spent reader.old).probes + binary_digits (among.size - 1) }
+{
+    let mut first = among.first;
+    let mut left = among.size;
+    while left > 1 {
+        let half = left / 2;
+        if reader.start(first + half) <= leaf {
+            first += half;
+        }
+        left -= half;
+    }
+    first
+}
+
+// The range that has a leaf, in a table that the processor has at hand: each probe halves those that are left, and no branch depends on
+// what is read.
 #[inline(always)]
 fn halve<R: Reader>(reader: &mut R, leaf: u64, among: Window) -> usize
     requires within { leaf < leaf_end }

@@ -1,10 +1,12 @@
-use Rattle.std.proofs.Common.{◌≡◌, ℕ, ◌+◌, ◌-◌, ◌*◌, ◌/◌, ◌∙◌, ap, arith}
+use Rattle.std.proofs.Common.{◌≡◌, ℕ, ◌+◌, ◌-◌, ◌*◌, ◌/◌, ◌∙◌, ap, subst, sym, arith}
 use Rattle.s2id_core.specs.BinaryDigits.{binary_digits}
 use Rattle.s2id_core.proofs.BinaryDigits.{digits_step}
 use Rattle.s2ix_table_walk.specs.Shown.{Shown}
 use Rattle.s2ix_table_walk.specs.Table.{range_at}
 use Rattle.s2ix_table_walk.specs.declared.cost.Cost.{Cost}
-use Rattle.s2ix_table_walk.proofs.Groups.{groups_left}
+use Rattle.s2ix_table_walk.proofs.Groups.{lower_groups, upper_groups}
+use Rattle.s2ix_table_walk.specs.Searching.{AreGroups}
+use Rattle.s2ix_table_walk.proofs.search.halve_groups.Goals.{then-sampled_start-leaf, else-sampled_start-leaf}
 use Rattle.s2ix_table_walk.proofs.search.halve_groups.Goals as goal
 
 pub loop-left-preserved : goal.loop-left-preserved
@@ -20,9 +22,17 @@ loop-left-preserved g c =
     let e : (c.loop-left.left - 1) / 2 ≡ c.loop-left.left - c.loop-left.left / 2 - 1 = omega arith in
     let digits = digits_step (c.loop-left.left - 1) (omega arith) ∙ ap (λ (n : ℕ). binary_digits n + 1) e in
     let paid = i.4 in (
-      groups_left s.pairs s.ranges c.args.leaf c.loop-left.first c.args.end c.loop-left.left c.begun.result
-          (g.met.R.Reader.is_shown c.args.reader.now).is_table i.0 more (λ by. c.begun.ensures.by (omega arith))
-          (λ lt. c.begun.ensures.after (omega arith)),
+      elim c.if-sampled_start-leaf.branch [
+        | then-sampled_start-leaf w ↦
+            (let by = w.if-sampled_start-leaf.true in
+            subst (λ (k : ℕ). AreGroups s.ranges c.args.leaf k c.args.end (c.loop-left.left - c.loop-left.left / 2)) (sym w.first-is)
+            (upper_groups s.ranges c.args.leaf c.loop-left.first c.args.end c.loop-left.left i.0 more (omega arith)))
+        | else-sampled_start-leaf w ↦
+            (let after = w.if-sampled_start-leaf.false in
+            subst (λ (k : ℕ). AreGroups s.ranges c.args.leaf k c.args.end (c.loop-left.left - c.loop-left.left / 2)) (sym w.first-is)
+            (lower_groups s.pairs s.ranges c.args.leaf c.loop-left.first c.args.end c.loop-left.left
+            (g.met.R.Reader.is_shown c.args.reader.now).is_table i.0 more (omega arith)))
+      ],
       c.sampled_start.ensures.same ∙ i.1,
       looks ∙ i.2,
       let kept = i.3 in omega arith,

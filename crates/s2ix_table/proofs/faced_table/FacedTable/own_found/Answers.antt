@@ -3,6 +3,7 @@ use Rattle.s2id_core.specs.CellId.{raw_of}
 use Rattle.s2ix_table_walk.specs.Table.{IsFound}
 use Rattle.s2ix_table.specs.FaceSpans.{spans_of, table_of}
 use Rattle.s2ix_table.specs.Joined.{joined_ranges}
+use Rattle.s2ix_table.specs.Layered.{covered, heavy_in}
 use Rattle.s2ix_table.proofs.FirstParts.{length_starts, rising_starts}
 use Rattle.s2ix_table.proofs.Reading.{found_in, place_of}
 use Rattle.s2ix_table.proofs.faced_table.FacedTable.own_found.Goals as goal
@@ -17,6 +18,6 @@ returns-clause-found c =
     let part = c.start_by-part.result in
     let within : part < length (spans_of t.parts.items) =
     omega (arith, c.start_by-part.ensures.within, ap (λ (ns : List ℕ). length ns) c.deref-2.ensures.value, length_starts t.joined) in
-    subst (λ (place : ℕ). IsFound (joined_ranges (spans_of t.parts.items)) (place + c.found_in.result) (raw_of c.args.leaf))
+    subst (λ (place : ℕ). IsFound (joined_ranges (covered (heavy_in t.heavy) (spans_of t.parts.items))) (place + c.found_in.result) (raw_of c.args.leaf))
     (sym (place_of part 0 t.joined within))
     (found_in part c.found_in.result (raw_of c.args.leaf) (table_of (spans_of t.parts.items) part) t.joined within refl c.found_in.ensures)

@@ -4,6 +4,7 @@ use Rattle.s2ix_table_walk.specs.Table.{IsFound}
 use Rattle.s2ix_table.specs.declared.offset.Offset.{Offset}
 use Rattle.s2ix_table.specs.FaceSpans.{spans_of}
 use Rattle.s2ix_table.specs.Joined.{joined_ranges}
+use Rattle.s2ix_table.specs.Layered.{covered, heavy_in}
 use Rattle.s2ix_table.proofs.Reading.{few_joined, many_offsets, offset_read, place_of}
 use Rattle.s2ix_table.proofs.faced_table.FacedTableRangeTable.find.Goals as goal
 
@@ -14,14 +15,14 @@ index-requires c =
     omega (arith, listed, many_offsets t.joined, t.offsets.ok.0)
 
 found : (c : goal.After-index)
-    → IsFound (joined_ranges (spans_of c.args.self.now.parts.items)) (c.index.result.now.place + c.own_found-part.result.1) (raw_of c.args.leaf)
+    → IsFound (joined_ranges (covered (heavy_in c.args.self.now.heavy) (spans_of c.args.self.now.parts.items))) (c.index.result.now.place + c.own_found-part.result.1) (raw_of c.args.leaf)
 found c =
     let t = c.args.self.now in
     let part = c.own_found-part.result.0 in
     let listed = c.own_found-part.ensures.range.listed in
     let is = offset_read part c.index.result.now t.joined listed c.index.ensures in
     let place = place_of part 0 t.joined listed ∙ sym (ap (λ (o : Offset). o.place) is) in
-    subst (λ (n : ℕ). IsFound (joined_ranges (spans_of t.parts.items)) (n + c.own_found-part.result.1) (raw_of c.args.leaf)) place
+    subst (λ (n : ℕ). IsFound (joined_ranges (covered (heavy_in t.heavy) (spans_of t.parts.items))) (n + c.own_found-part.result.1) (raw_of c.args.leaf)) place
     c.own_found-part.ensures.found
 
 pub overflow_add-result : goal.overflow_add-result

@@ -5,7 +5,7 @@ use Rattle.s2ix_bag_pairs.specs.Collection.{Collection}
 use Rattle.s2ix_table_walk.specs.Places.{LeadsTo}
 use Rattle.s2ix_table.specs.FaceSpans.{spans_of}
 use Rattle.s2ix_table.specs.Offsets.{place_on}
-use Rattle.s2ix_table.specs.PartPlaces.{chain_from}
+use Rattle.s2ix_table.specs.PartPlaces.{faced_chain}
 use Rattle.s2ix_table.proofs.faced_table.FacedTableRangeTable.first_over.Goals as goal
 
 pub returns : goal.returns
@@ -18,4 +18,4 @@ returns c =
     let found = c.own_found-part.ensures.found in
     let place = place_on t.offsets.items c.own_found-part.result.0 c.own_found-part.result.1 in
     let shared = t.table.shared place (raw_of leaf) found.within odd found.start found.limit in
-    subst (λ (hs : Collection). LeadsTo (chain_from (spans_of t.parts.items)) c.first_at.result hs) (sym shared) c.first_at.ensures
+    subst (λ (hs : Collection). LeadsTo (faced_chain (spans_of t.parts.items) t.heavy) c.first_at.result hs) (sym shared) c.first_at.ensures

@@ -5,6 +5,7 @@ use Rattle.s2ix_table_walk.specs.Table.{Range}
 use Rattle.s2ix_table.specs.declared.offset.Offset.{Offset}
 use Rattle.s2ix_table.specs.FaceSpans.{spans_of}
 use Rattle.s2ix_table.specs.Joined.{joined_ranges}
+use Rattle.s2ix_table.specs.Layered.{covered, heavy_in}
 use Rattle.s2ix_table.proofs.Reading.{many_offsets, offset_read, ends_few}
 use Rattle.s2ix_table.proofs.Shared.{many_shared}
 use Rattle.s2ix_table.proofs.Stretches.{part_stretch, some_starts, rest_of}
@@ -44,7 +45,7 @@ returns-clause-stretch c =
     let t = c.args.self.now in
     let lt = c.if-m-len.false in
     let listed : c.args.m < length (spans_of t.parts.items) = omega (arith, lt, c.len.ensures, many_shared t.parts.items, t.parts.ok.0) in
-    let ranges = joined_ranges (spans_of t.parts.items) in
+    let ranges = joined_ranges (covered (heavy_in t.heavy) (spans_of t.parts.items)) in
     let starts = c.starts-starts.result.now in
     let read = offset_read c.args.m c.index.result.now t.joined listed c.index.ensures in
     let stretch = part_stretch c.args.m c.span-span.result.now starts t.joined listed c.span-span.ensures c.starts-starts.ensures in

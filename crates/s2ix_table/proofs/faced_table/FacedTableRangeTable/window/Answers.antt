@@ -5,6 +5,7 @@ use Rattle.s2ix_table_spans.specs.Starts.{IsAmong}
 use Rattle.s2ix_table.specs.declared.offset.Offset.{Offset}
 use Rattle.s2ix_table.specs.FaceSpans.{spans_of, table_of}
 use Rattle.s2ix_table.specs.Joined.{joined_ranges}
+use Rattle.s2ix_table.specs.Layered.{covered, heavy_in}
 use Rattle.s2ix_table.proofs.FirstParts.{leaf_before_end, length_starts, rising_starts}
 use Rattle.s2ix_table.proofs.Reading.{no_offset, many_offsets, many_places, offset_read, ends_few}
 use Rattle.s2ix_table.proofs.Stretches.{parts_window}
@@ -47,13 +48,13 @@ index-requires-2 c =
 -- their ranges
 ranges_are : (c : After-range_count)
     → (c.index.result.now.place ≤ c.index-2.result.now.place + c.range_count.result)
-    × HaveLeaves (joined_ranges (spans_of c.args.self.now.parts.items)) c.args.leaf
+    × HaveLeaves (joined_ranges (covered (heavy_in c.args.self.now.heavy) (spans_of c.args.self.now.parts.items))) c.args.leaf
     (table_of (spans_of c.args.self.now.parts.items) (c.parts_with-parts.result.first + c.parts_with-parts.result.size - 1)).to
     c.index.result.now.place (c.index-2.result.now.place + c.range_count.result - c.index.result.now.place)
     × (c.index-2.result.now.place + c.range_count.result ≤ 2000001)
 ranges_are c =
     let t = c.args.self.now in
-    let ranges = joined_ranges (spans_of t.parts.items) in
+    let ranges = joined_ranges (covered (heavy_in t.heavy) (spans_of t.parts.items)) in
     let parts = subst (λ (ns : List ℕ). IsAmong ns c.args.leaf c.parts_with-parts.result.first c.parts_with-parts.result.size)
     c.deref.ensures.value c.parts_with-parts.ensures in
     let some = parts.some in
@@ -86,7 +87,7 @@ overflow_sub-result c = (ranges_are (goal.at.overflow_sub-result c).After-range_
 pub returns-clause-window : goal.returns-clause-window
 returns-clause-window c =
     let h = (goal.at.returns-clause-window c).After-range_count in
-    subst (λ (until : ℕ). HaveLeaves (joined_ranges (spans_of c.args.self.now.parts.items)) c.args.leaf until c.index.result.now.place
+    subst (λ (until : ℕ). HaveLeaves (joined_ranges (covered (heavy_in c.args.self.now.heavy) (spans_of c.args.self.now.parts.items))) c.args.leaf until c.index.result.now.place
     (c.index-2.result.now.place + c.range_count.result - c.index.result.now.place)) (sym c.end_of_part.ensures) (ranges_are h).1
 
 pub returns-clause-borders : goal.returns-clause-borders

@@ -1,0 +1,86 @@
+use Rattle.std.proofs.Common.{◌≡◌, ◌+◌, ◌*◌, ℕ, List, [], length, replicate, None, Result, Ok, Err, IfOk, sym, ap, ap₂, ◌∙◌, subst, subst₂, arith, rules}
+use Rattle.std.proofs.lemmas.List.{length-map}
+use Rattle.std.specs.Arc.{arc_value}
+use Rattle.s2ix_bag_lists.specs.Faces.{all_of}
+use Rattle.s2ix_bag_pairs.specs.Collection.{Collection}
+use Rattle.s2ix_table_spans.specs.SpanTable.{IsInSpan}
+use Rattle.s2ix_table.specs.FaceSpans.{AreOnFace, face_begin, spans_of}
+use Rattle.s2ix_table.specs.Joined.{AreNeighbours, held_in}
+use Rattle.s2ix_table.specs.Layered.{AreLightParts, IsFaceLayered}
+use Rattle.s2ix_table.specs.Layers.{together}
+use Rattle.s2ix_table.proofs.InSpans.{begins_at, ends_at, face_in_span}
+use Rattle.s2ix_table.proofs.Layers.{cells_part_pairs, length_together}
+use Rattle.s2ix_table.proofs.Layering.{two_layers}
+use Rattle.s2ix_table.proofs.NoHeavy.{all_light, together_none}
+use Rattle.s2ix_table.proofs.face_parts.face_parts.Goals as goal
+
+-- what three facts on an answer give
+if_ok : {A E : Type 0} (r : Result A E) (P Q R S : A → Type 0) → IfOk r P → IfOk r Q → IfOk r R → ((x : A) → P x → Q x → R x → S x) → IfOk r S
+if_ok (Ok x) P Q R S p q r all = all x p q r
+if_ok (Err e) P Q R S p q r all = tt
+
+in_read_span : (face read : ℕ) (held : Collection) → read ≡ face → AreOnFace face held
+    → IsInSpan held (read * 2305843009213693952 + 1) (read * 2305843009213693952 + 1 + 2305843009213693952)
+in_read_span face read held is on = subst₂ (IsInSpan held) (begins_at face read is) (ends_at face read is) (face_in_span face held on)
+
+pub parts_over-requires-clause-span : goal.parts_over-requires-clause-span
+parts_over-requires-clause-span c =
+    in_read_span c.args.face c.from.result (all_of c.parts.result.now) c.from.ensures
+    (subst (AreOnFace c.args.face) (sym c.parts.ensures.list) c.requires.on_face)
+
+pub layered-requires-clause-few : goal.layered-requires-clause-few
+layered-requires-clause-few c =
+    let light = c.in_ok-layers.layers.light.items in
+    let heavy = all_of c.in_ok-layers.layers.chunks.items in
+    let is = c.in_ok-layers.ensures in
+    let all : c.as_slice-then-has_large.result.now ≡ c.args.held.now = c.as_slice-then-has_large.ensures.value ∙ c.in_ok-all.ensures in
+    let both = length_together light heavy is.rises is.chunks.rises (cells_part_pairs light heavy is.apart) in
+    let whole = ap (λ (hs : Collection). length hs) (is.pairs ∙ all) in
+    let few = c.requires.few in
+    omega arith
+
+pub layered-requires-clause-span : goal.layered-requires-clause-span
+layered-requires-clause-span c =
+    let all : c.as_slice-then-has_large.result.now ≡ c.args.held.now = c.as_slice-then-has_large.ensures.value ∙ c.in_ok-all.ensures in
+    let on = subst (AreOnFace c.args.face) (sym all) c.requires.on_face in
+    in_read_span c.args.face c.from.result c.in_ok-layers.layers.light.items c.from.ensures (λ h is. on h (c.in_ok-layers.ensures.of_held h is))
+
+pub returns-in-Some-clause-layered : goal.returns-in-Some-clause-layered
+returns-in-Some-clause-layered c =
+    let made = c.in-Some.layered in
+    let light = c.in_ok-layers.layers.light.items in
+    let chunks = c.in_ok-layers.layers.chunks.items in
+    let is = c.in_ok-layers.ensures in
+    let parts = spans_of made.parts.items in
+    let overs = made.overs.items in
+    let all : c.as_slice-then-has_large.result.now ≡ c.args.held.now = c.as_slice-then-has_large.ensures.value ∙ c.in_ok-all.ensures in
+    let on = subst (AreOnFace c.args.face) (sym all) c.requires.on_face in
+    let same : made.heavy ≡ chunks = search rules in
+    let are : AreLightParts chunks light (c.from.result * 2305843009213693952 + 1) parts overs
+    (c.from.result * 2305843009213693952 + 1 + 2305843009213693952) = search rules in
+    two_layers c.args.face c.as_slice-then-has_large.result.now light chunks made.heavy parts overs
+    (subst₂ (λ (a b : ℕ). AreLightParts chunks light a parts overs b) (sym (begins_at c.args.face c.from.result c.from.ensures))
+    (sym (ends_at c.args.face c.from.result c.from.ensures)) are) same is.chunks is.apart is.of_heavy on
+
+pub returns-clause-layered : goal.returns-clause-layered
+returns-clause-layered c =
+    let parts = c.in_ok-parts.parts in
+    let face = c.args.face in
+    let are : AreNeighbours (face_begin face) (spans_of parts.items) (face_begin (face + 1)) =
+    subst₂ (λ (a b : ℕ). AreNeighbours a (spans_of parts.items) b) (sym (begins_at face c.from.result c.from.ensures))
+    (sym (ends_at face c.from.result c.from.ensures)) c.in_ok-parts.ensures.neighbours in
+    let is = c.plain.ensures in
+    if_ok c.plain.result (λ f. f.parts ≡ parts) (λ f. f.heavy ≡ []) (λ f. f.overs.items ≡ replicate (length parts.items) None)
+    (λ f. IsFaceLayered face f.heavy (spans_of f.parts.items) f.overs.items) is.parts is.heavy is.overs
+    (λ f same none all. all_light face (spans_of parts.items) (spans_of f.parts.items) f.heavy f.overs.items are
+    (ap (λ v. spans_of v.items) same) none (all ∙ ap (λ (n : ℕ). replicate n None) (sym (length-map parts.items arc_value))))
+
+pub returns-clause-pairs : goal.returns-clause-pairs
+returns-clause-pairs c =
+    let parts = c.in_ok-parts.parts in
+    let is = c.plain.ensures in
+    let all : held_in (spans_of parts.items) ≡ c.args.held.now = c.in_ok-parts.ensures.pairs ∙ c.parts.ensures.list in
+    if_ok c.plain.result (λ f. f.parts ≡ parts) (λ f. f.heavy ≡ []) (λ f. f.overs.items ≡ replicate (length parts.items) None)
+    (λ f. together (held_in (spans_of f.parts.items)) (all_of f.heavy) ≡ c.args.held.now) is.parts is.heavy is.overs
+    (λ f same none _. ap₂ (λ (hs : Collection) (cs : List Collection). together hs (all_of cs)) (ap (λ v. held_in (spans_of v.items)) same) none
+    ∙ together_none (held_in (spans_of parts.items)) ∙ all)

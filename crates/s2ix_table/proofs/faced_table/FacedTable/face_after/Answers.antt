@@ -1,0 +1,84 @@
+use Rattle.std.proofs.Common.{ℕ, IfOk, length, subst, sym, ap, ◌∙◌, arith}
+use Rattle.s2ix_bag_lists.specs.Faces.{all_of}
+use Rattle.s2ix_bag_pairs.specs.Change.{changed}
+use Rattle.s2ix_bag_pairs.specs.Collection.{Collection, IsCollection}
+use Rattle.s2ix_bag_pairs.proofs.Changes.{changed_keeps}
+use Rattle.s2ix_table.specs.Faces.{entries_on, held_on}
+use Rattle.s2ix_table.specs.FaceSpans.{AreOnFace, parts_of_face, spans_of}
+use Rattle.s2ix_table.specs.Joined.{held_in}
+use Rattle.s2ix_table.specs.Layered.{IsFaceWith, heavy_in}
+use Rattle.s2ix_table.specs.Layers.{together}
+use Rattle.s2ix_table.proofs.AllFaces.{held_few, held_rises, lie_on}
+use Rattle.s2ix_table.proofs.ChangedOnFaces.{changed_on_face}
+use Rattle.s2ix_table.proofs.FaceLists.{list_none, list_some}
+use Rattle.s2ix_table.proofs.Unchanged.{unchanged_stay}
+use Rattle.s2ix_table.proofs.faced_table.FacedTable.face_after.Goals as goal
+
+pub after-requires-clause-made : goal.after-requires-clause-made
+after-requires-clause-made c =
+    let t = c.args.self.now in
+    let change = c.args.change.now in
+    let face : ℕ = c.args.face in
+    let old = together (held_in (spans_of t.parts.items)) (heavy_in t.heavy) in
+    let list = list_some c.args.lists.now change (changed old change) face c.from.result c.index-lists-from.result c.in-Some.list c.requires.lists
+    c.from.ensures c.requires.six c.in-Some.is in
+    let entries = c.entries_on.ensures.on ∙ ap (entries_on face) c.entries.ensures.list in
+    ap (λ (hs : Collection). changed hs c.entries_on.result.now) c.face-before.ensures.pairs
+    ∙ ap (changed (held_on face old)) entries
+    ∙ sym (changed_on_face face old change t.rises)
+    ∙ sym list
+
+pub after-requires-clause-rises : goal.after-requires-clause-rises
+after-requires-clause-rises c =
+    let t = c.args.self.now in
+    let change = c.args.change.now in
+    let face : ℕ = c.args.face in
+    let old = together (held_in (spans_of t.parts.items)) (heavy_in t.heavy) in
+    let list = list_some c.args.lists.now change (changed old change) face c.from.result c.index-lists-from.result c.in-Some.list c.requires.lists
+    c.from.ensures c.requires.six c.in-Some.is in
+    subst IsCollection (sym list) (held_rises face 0 (changed old change) (changed_keeps old change t.rises c.entries.ensures.rises))
+
+pub after-requires-clause-few : goal.after-requires-clause-few
+after-requires-clause-few c =
+    let t = c.args.self.now in
+    let change = c.args.change.now in
+    let face : ℕ = c.args.face in
+    let old = together (held_in (spans_of t.parts.items)) (heavy_in t.heavy) in
+    let list = list_some c.args.lists.now change (changed old change) face c.from.result c.index-lists-from.result c.in-Some.list c.requires.lists
+    c.from.ensures c.requires.six c.in-Some.is in
+    let few = c.requires.few in
+    let own = held_few face (changed old change) in
+    let same = ap length list in
+    omega (arith, few, own, same)
+
+pub after-requires-clause-on_face : goal.after-requires-clause-on_face
+after-requires-clause-on_face c =
+    let t = c.args.self.now in
+    let change = c.args.change.now in
+    let face : ℕ = c.args.face in
+    let old = together (held_in (spans_of t.parts.items)) (heavy_in t.heavy) in
+    let list = list_some c.args.lists.now change (changed old change) face c.from.result c.index-lists-from.result c.in-Some.list c.requires.lists
+    c.from.ensures c.requires.six c.in-Some.is in
+    subst (λ n. AreOnFace n c.in-Some.list) (sym c.face-before.ensures.face) (subst (AreOnFace face) (sym list) (lie_on face (changed old change)))
+
+pub returns-in-None-clause-with : goal.returns-in-None-clause-with
+returns-in-None-clause-with c =
+    let t = c.args.self.now in
+    let change = c.args.change.now in
+    let face : ℕ = c.args.face in
+    let old = together (held_in (spans_of t.parts.items)) (heavy_in t.heavy) in
+    let none = list_none c.args.lists.now change (changed old change) face c.from.result c.index-lists-from.result c.requires.lists
+    c.from.ensures c.requires.six c.in-None.is in
+    let before = c.face-before.result in
+    let is = c.face-before.ensures in
+    let pairs = is.pairs ∙ sym (unchanged_stay old change face none) in
+    let r = c.unchanged.result in
+    let hs = together (held_in (spans_of before.parts.now)) (all_of before.heavy.now) in
+    let one = subst (λ n. IfOk r (λ new. IsFaceWith n hs (spans_of before.parts.now) before.overs.now new.parts.first new.parts.end (spans_of new.parts.parts.items) new.overs.items new.heavy))
+    is.face c.unchanged.ensures.with in
+    let two = subst (λ ks. IfOk r (λ new. IsFaceWith face ks (spans_of before.parts.now) before.overs.now new.parts.first new.parts.end (spans_of new.parts.parts.items) new.overs.items new.heavy))
+    pairs one in
+    let three = subst (λ ts. IfOk r (λ new. IsFaceWith face (held_on face (changed old change)) ts before.overs.now new.parts.first new.parts.end (spans_of new.parts.parts.items) new.overs.items new.heavy))
+    is.parts two in
+    subst (λ os. IfOk r (λ new. IsFaceWith face (held_on face (changed old change)) (parts_of_face (spans_of t.parts.items) t.faces face) os new.parts.first new.parts.end (spans_of new.parts.parts.items) new.overs.items new.heavy))
+    is.overs three

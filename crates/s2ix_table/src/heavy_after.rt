@@ -1,0 +1,194 @@
+//! What a change of heavy cells makes of a face: the parts stay within which the heavy pairs don't change, and so do the chunks that it
+//! does not touch.
+ghost use Rattle.std.specs.Prelude.{◌≡◌, ◌<◌, ◌≤◌, ◌+◌, ◌++◌, ◌%◌, ◌∷◌, [], IfOk, IfSome, OnOk, length};
+ghost use Rattle.s2id_core.specs.Span.{leaf_end};
+ghost use Rattle.s2ix_bag_lists.specs.Faces.{all_of};
+ghost use Rattle.s2ix_bag_pairs.specs.Change.{IsChangeList, changed};
+ghost use Rattle.s2ix_table.specs.FaceSpans.{AreOnFace, spans_of, table_of};
+ghost use Rattle.s2ix_table.specs.Joined.{AreNeighbours, held_in};
+ghost use Rattle.s2ix_table.specs.Layered.{AreLightParts, HaveOtherCells, IsFaceLayered, IsFaceWith, IsUnder};
+ghost use Rattle.s2ix_table.specs.Layers.{together};
+
+use crate::chunks_after::chunks_after;
+use crate::face_after::Face;
+use crate::face_parts::{FaceParts, over_spans};
+use crate::heavy_pairs::HeavyPairs;
+use crate::new_parts::{NewFace, NewParts};
+use s2id_core::{FACE_NUMBERS, OutOfMemory};
+use s2ix_bag_lists::FlatHeld;
+use s2ix_bag_pairs::Entry;
+use s2ix_table_heavy::HeavyPlace;
+use s2ix_table_spans::SpanTable;
+use std::alloc::Global;
+use std::sync::Arc;
+
+impl Face<'_> {
+    // What a change of heavy cells makes of the face: of cells that have heavy pairs, or no pairs yet. Its parts stay, shared, and it is
+    // found anew which heavy pairs lie over each; where these change within a part, its pairs are laid in parts anew. Chunks are made anew,
+    // of at most `most` pairs, only where the change has entries. `None` if a light cell goes over a leaf number at which the heavy pairs
+    // change. O(p log c + c + m + k) for p parts, c chunks, m entries and the k pairs of the parts and chunks made anew. `OutOfMemory` if a
+    // growth is refused, or a part or a chunk is shared too often.
+    pub(crate) fn heavy_after(
+        self,
+        alloc: Global,
+        entries: &[Entry],
+        most: usize,
+    ) -> Result<Option<NewFace>, OutOfMemory>
+        requires six { self.face < 6 }
+        requires layered { IsFaceLayered self.face self.heavy.now (spans_of self.parts.now) self.overs.now }
+        requires entries_rise { IsChangeList entries.now }
+        requires apart { HaveOtherCells entries.now (held_in (spans_of self.parts.now)) }
+        requires on_face { AreOnFace self.face (changed (all_of self.heavy.now) entries.now) }
+        requires few { length (changed (all_of self.heavy.now) entries.now) ≤ 1000000 }
+        ensures face { IfOk result (λ made. IfSome made (λ new. new.face ≡ self.entry.face)) }
+        ensures first { IfOk result (λ made. IfSome made (λ new. new.parts.first ≡ 0)) }
+        ensures end { IfOk result (λ made. IfSome made (λ new. new.parts.end ≡ length (spans_of self.entry.parts.now))) }
+        ensures with { IfOk result (λ made. IfSome made (λ new. IsFaceWith self.entry.face
+            (changed (together (held_in (spans_of self.entry.parts.now)) (all_of self.entry.heavy.now)) entries.now)
+            (spans_of self.entry.parts.now) self.entry.overs.now
+            new.parts.first new.parts.end (spans_of new.parts.parts.items) new.overs.items new.heavy)) }
+    {
+        let chunks = chunks_after(alloc, self.heavy.chunks(), entries, most)?;
+        let heavy = HeavyPairs::over(alloc, chunks)?;
+        let from = u64::from(self.face) * FACE_NUMBERS + 1;
+        let Some(under) = parts_under(alloc, self.parts, heavy, from, from + FACE_NUMBERS, most)?
+        else {
+            return Ok(None);
+        };
+        let FaceParts {
+            parts,
+            overs,
+            heavy,
+        } = under;
+        Ok(Some(NewFace {
+            face: usize::from(self.face),
+            parts: NewParts {
+                first: 0,
+                end: self.parts.len(),
+                parts,
+            },
+            overs,
+            heavy,
+        }))
+    }
+}
+
+// Parts over the leaves from one number up to another, under heavy pairs: each is shared if these are the same at all its leaves, else its
+// pairs are laid anew, in parts of at most `most` pairs if they can be cut. `None` if a light cell goes over a leaf number at which the
+// heavy pairs change. O(p log c + k) for p parts, c chunks and the k pairs of the parts made anew. `OutOfMemory` if a growth is refused, or
+// a part is shared too often.
+fn parts_under(
+    alloc: Global,
+    parts: &[Arc<SpanTable>],
+    heavy: HeavyPairs,
+    from: u64,
+    to: u64,
+    most: usize,
+) -> Result<Option<FaceParts>, OutOfMemory>
+    requires neighbours { AreNeighbours from (spans_of parts.now) to }
+    requires leaves { to ≤ leaf_end }
+    ensures heavy { IfOk result (λ made. IfSome made (λ f. f.heavy ≡ heavy)) }
+    ensures parts { IfOk result (λ made. IfSome made (λ f.
+        AreLightParts heavy (held_in (spans_of parts.now)) from (spans_of f.parts.items) f.overs.items to)) }
+{
+    let mut made = Vec::with_capacity(alloc, parts.len())?;
+    let mut overs = Vec::with_capacity(alloc, parts.len())?;
+    let mut known = (None, from);
+    let mut begin = from;
+    for k in 0..parts.len() {
+        let end = end_of(parts, k, to);
+        known = over_from(&heavy, known, begin, end);
+        if known.1 < end {
+            let shared = heavy.clone()?;
+            let Some(laid) = over_spans(alloc, held_of(parts, k), shared, begin, end, most)? else {
+                return Ok(None);
+            };
+            put_laid(&mut made, &mut overs, laid)?;
+        } else {
+            put_shared(&mut made, &mut overs, &parts[k], known.0)?;
+        }
+        begin = end;
+    }
+    Ok(Some(FaceParts {
+        parts: made,
+        overs,
+        heavy,
+    }))
+}
+
+// The pairs of a part. O(1).
+fn held_of(parts: &[Arc<SpanTable>], part: usize) -> &[FlatHeld]
+    requires { part < length parts.now }
+    ensures { result.now ≡ (table_of (spans_of parts.now) part).held }
+{
+    parts[part].held()
+}
+
+// Appends parts, with what leads to the heavy pairs over each.
+fn put_laid(
+    parts: &mut Vec<Arc<SpanTable>>,
+    overs: &mut Vec<Option<HeavyPlace>>,
+    laid: FaceParts,
+) -> Result<(), OutOfMemory>
+    ensures parts { OnOk result (spans_of parts.new.items ≡ spans_of parts.old.items ++ spans_of laid.parts.items) }
+    ensures overs { OnOk result (overs.new.items ≡ overs.old.items ++ laid.overs.items) }
+{
+    let FaceParts {
+        parts: mut more,
+        overs: mut more_overs,
+        ..
+    } = laid;
+    parts.append(&mut more)?;
+    overs.append(&mut more_overs)?;
+    Ok(())
+}
+
+// Appends a part, shared, with what leads to the heavy pairs over it.
+fn put_shared(
+    parts: &mut Vec<Arc<SpanTable>>,
+    overs: &mut Vec<Option<HeavyPlace>>,
+    part: &Arc<SpanTable>,
+    over: Option<HeavyPlace>,
+) -> Result<(), OutOfMemory>
+    ensures parts { OnOk result (spans_of parts.new.items ≡ spans_of parts.old.items ++ part.now.value ∷ []) }
+    ensures overs { OnOk result (overs.new.items ≡ overs.old.items ++ over ∷ []) }
+{
+    let shared = part.clone()?;
+    parts.push(shared)?;
+    overs.push(over)?;
+    Ok(())
+}
+
+// Where a part ends, of parts of which the last one ends at `to`.
+pub(crate) fn end_of(parts: &[Arc<SpanTable>], part: usize, to: u64) -> u64
+    requires { part < length parts.now }
+    ensures next { part + 1 < length (spans_of parts.now) → result ≡ (table_of (spans_of parts.now) (part + 1)).from }
+    ensures last { part + 1 ≡ length (spans_of parts.now) → result ≡ to }
+{
+    if part + 1 < parts.len() {
+        parts[part + 1].from()
+    } else {
+        to
+    }
+}
+
+// The place that leads to the heavy pairs over a leaf, which is given by its number, and a number up to which they are the same: what is
+// `known`, if it reaches `end`, else found anew. O(1), or O(log c) for c chunks.
+fn over_from(
+    heavy: &HeavyPairs,
+    known: (Option<HeavyPlace>, u64),
+    leaf: u64,
+    end: u64,
+) -> (Option<HeavyPlace>, u64)
+    requires known { leaf < known.1 → IsUnder heavy.now leaf known.1 known.0 }
+    requires odd { leaf % 2 ≡ 1 }
+    requires some { leaf < end }
+    requires leaves { end ≤ leaf_end }
+    ensures { IsUnder heavy.now leaf result.1 result.0 }
+{
+    if end <= known.1 {
+        known
+    } else {
+        heavy.first_over(leaf)
+    }
+}

@@ -1,0 +1,9 @@
+pub mod Outwards
+pub mod Chunked
+pub mod Marked
+pub mod HeavyWay
+pub mod OnePlace
+pub mod MakingMarks
+pub mod CellSearch
+pub mod Kept
+pub mod Cutting

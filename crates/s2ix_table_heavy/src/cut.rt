@@ -1,0 +1,46 @@
+//! How held pairs are cut into chunks.
+ghost use Rattle.std.specs.Prelude.{◌≡◌, ◌<◌, ◌≤◌, length, take, max, IfOk};
+ghost use Rattle.s2ix_bag_lists.specs.Faces.{all_of};
+ghost use Rattle.s2ix_bag_pairs.specs.Collection.{IsCollection};
+ghost use Rattle.s2ix_table_heavy.specs.Chunks.{AreChunks, IsOfOneCell};
+
+use s2id_core::OutOfMemory;
+use s2ix_bag_lists::{FlatHeld, HeldList};
+use std::alloc::Global;
+
+// How many pairs in front have the cell of the first one: at most `most`, and at least one.
+fn chunk_len(held: &[FlatHeld], most: usize) -> usize
+    requires { 0 < length held.now }
+    ensures some { 0 < result }
+    ensures within { result ≤ length held.now }
+    ensures most { result ≤ max most 1 }
+    ensures one_cell { IsOfOneCell (take result held.now) }
+{
+    let cell = held[0].cell();
+    let mut len = 1;
+    while len < held.len() && len < most && held[len].cell() == cell {
+        len += 1;
+    }
+    len
+}
+
+/// Held pairs, cut into chunks of at most `most` pairs each, but at least one. O(n) for n pairs. `OutOfMemory` if a growth is refused.
+pub fn cut_into_chunks(
+    alloc: Global,
+    held: &[FlatHeld],
+    most: usize,
+) -> Result<Vec<HeldList>, OutOfMemory>
+    requires rises { IsCollection held.now }
+    requires few { length held.now ≤ 1000000 }
+    ensures whole { IfOk result (λ chunks. all_of chunks.items ≡ held.now) }
+    ensures chunks { IfOk result (λ chunks. AreChunks chunks.items) }
+{
+    let mut chunks = Vec::new(alloc);
+    let mut rest = held;
+    while !rest.is_empty() {
+        let (own, later) = rest.split_at(chunk_len(rest, most));
+        chunks.push(HeldList::new(alloc, Vec::from_slice(alloc, own)?)?)?;
+        rest = later;
+    }
+    Ok(chunks)
+}
