@@ -99,12 +99,12 @@ some_on bag [] on = All-nil HasEntries
 some_on bag (es ∷ rest) on =
     All-cons HasEntries es rest on.1 (some_on (with_held bag (changed bag.held es)) rest on.3)
 
-some_back : (bag : LimitedCollection) (ess : List (List Entry)) → CanGoBack bag ess → All HasEntries ess
+pub some_back : (bag : LimitedCollection) (ess : List (List Entry)) → CanGoBack bag ess → All HasEntries ess
 some_back bag [] back = All-nil HasEntries
 some_back bag (es ∷ older) back =
     All-cons HasEntries es older back.1 (some_back (with_held bag (changed bag.held (inverse_of es))) older back.3)
 
-all_reversed : (P : List Entry → Type 0) (ess : List (List Entry)) → All P ess → All P (reverse ess)
+pub all_reversed : (P : List Entry → Type 0) (ess : List (List Entry)) → All P ess → All P (reverse ess)
 all_reversed P [] all = all
 all_reversed P (es ∷ rest) all =
     subst (λ (xs : List (List Entry)). All P xs) (sym (reverse_cons es rest))

@@ -22,7 +22,7 @@ use Rattle.std.proofs.lemmas.Option.{slice_get_read}
 reverse_push : (done : List (List Entry)) (es : List Entry) → reverse (done ++ es ∷ []) ≡ es ∷ reverse done
 reverse_push done es = reverse-append done (es ∷ [])
 
-take_through : (xs ys : List Collection) (x : Collection) (n : ℕ) → length xs ≡ n → take (n + 1) (xs ++ x ∷ ys) ≡ xs ++ x ∷ []
+pub take_through : (xs ys : List Collection) (x : Collection) (n : ℕ) → length xs ≡ n → take (n + 1) (xs ++ x ∷ ys) ≡ xs ++ x ∷ []
 take_through xs ys x n e = ap (λ k. take (k + 1) (xs ++ x ∷ ys)) (sym e) ∙ take-append-add xs (x ∷ ys) 1
 
 pub slice_get_last : (front : List (List Entry)) (y : List Entry) → slice_get (front ++ y ∷ []) (length (front ++ y ∷ []) - 1) ≡ Some y
@@ -49,7 +49,7 @@ collections_recorded hs new es done rest back =
     (sym (take_through (earlier hs (reverse done)) rest hs (length done) (length-earlier hs (reverse done) ∙ length-reverse done)))
 
 -- a bag that a change made can go back over it, and on as before
-back_over : (bag : LimitedCollection) (done : List (List Entry)) (es : List Entry) → IsBag bag → CanGoBack bag (reverse done)
+pub back_over : (bag : LimitedCollection) (done : List (List Entry)) (es : List Entry) → IsBag bag → CanGoBack bag (reverse done)
     → IsChangeList es → 0 < length es → apply_refusal bag es ≡ None
     → CanGoBack (with_held bag (changed bag.held es)) (reverse (done ++ es ∷ []))
 back_over bag done es b back rises some taken =

@@ -6,7 +6,7 @@ use Rattle.s2ix_bag_pairs.specs.declared.pair.Entry.{Entry}
 use Rattle.s2ix_bag_pairs.specs.declared.pair.Held.{Held}
 use Rattle.s2ix_bag_pairs.specs.declared.pair.Pair.{Pair}
 use Rattle.s2ix_bag_pairs.specs.Change.{change_between}
-use Rattle.s2ix_bag_pairs.specs.Collection.{Collection, copies_in, count_in}
+use Rattle.s2ix_bag_pairs.specs.Collection.{Collection, IsCollection, copies_in, count_in}
 use Rattle.s2ix_bag_pairs.specs.Pair.{rank_of}
 use Rattle.s2ix_bag_pairs.proofs.Inverse.{changed_inverse_between}
 use Rattle.s2ix_edit_plan.specs.declared.errors.EditError.{EditError}
@@ -89,7 +89,30 @@ nothing_answered_where s rows r st accepted refused memory =
 
 -- ---- an undo
 
--- rows and then an undo lead back
+-- a step to a collection and then an undo lead back
+pub undo_of_made : (s : State) (new : Collection) → IsStore s → IsCollection new
+    → after_undo (record {
+      bag = with_held s.bag new;
+      done = s.done ++ change_between s.bag.held new ∷ [];
+      undone = [];
+      faces_rebuilt = faces_of (change_between s.bag.held new);
+    })
+    ≡ record {
+      bag = s.bag;
+      done = s.done;
+      undone = change_between s.bag.held new ∷ [];
+      faces_rebuilt = faces_of (change_between s.bag.held new);
+    }
+undo_of_made s new st is =
+    let es = change_between s.bag.held new in
+    let made : State = record { bag = with_held s.bag new; done = s.done ++ es ∷ []; undone = []; faces_rebuilt = faces_of es } in
+    undo_of_last made s.done es refl
+    ∙ ap₂ (λ (hs : Collection) (done : List (List Entry)).
+    let t : State = record { bag = with_held s.bag hs; done = done; undone = es ∷ []; faces_rebuilt = faces_of es } in
+    t)
+    (changed_inverse_between s.bag.held new st.bag.rises is)
+    (front_of s.done es)
+
 pub undo_of_rows : (s : State) (rows : List Held) → IsStore s
     → after_undo (after_rows s rows)
     ≡ record {
@@ -98,14 +121,7 @@ pub undo_of_rows : (s : State) (rows : List Held) → IsStore s
       undone = rows_change s.bag.held rows ∷ [];
       faces_rebuilt = faces_of (rows_change s.bag.held rows);
     }
-undo_of_rows s rows st =
-    let es = rows_change s.bag.held rows in
-    undo_of_last (after_rows s rows) s.done es refl
-    ∙ ap₂ (λ (hs : Collection) (done : List (List Entry)).
-    let t : State = record { bag = with_held s.bag hs; done = done; undone = es ∷ []; faces_rebuilt = faces_of es } in
-    t)
-    (changed_inverse_between s.bag.held (with_rows rows s.bag.held) st.bag.rises (with_rows_keeps rows s.bag.held st.bag.rises))
-    (front_of s.done es)
+undo_of_rows s rows st = undo_of_made s (with_rows rows s.bag.held) st (with_rows_keeps rows s.bag.held st.bag.rises)
 
 -- ---- one row
 

@@ -1,7 +1,11 @@
+pub mod Given
+pub mod OneChange
 pub mod Recorded
+pub mod Shortened
 pub mod Standing
 pub mod Steps
 pub mod Store
+pub use Rattle.s2ix_bag.specs.Replay
 pub use Rattle.s2ix_bag_pairs.specs.Change
 pub use Rattle.s2ix_bag_pairs.specs.Collection
 pub use Rattle.s2ix_bag_pairs.specs.Limits
@@ -12,6 +16,7 @@ pub use Rattle.s2ix_edit_plan.specs.History
 pub use Rattle.s2ix_edit_plan.specs.Plan
 pub use Rattle.s2ix_edit_plan.specs.Refusals
 pub use Rattle.s2ix_edit_plan.specs.Region
+pub use Rattle.s2ix_edit_plan.specs.Removals
 pub use Rattle.s2ix_edit_plan.specs.Rows
 pub use Rattle.s2ix_edit_plan.specs.State
 pub use Rattle.s2ix_table_walk.specs.Table

@@ -1,14 +1,16 @@
 -- What each step of a store makes of its state.
-use Rattle.std.specs.Prelude.{◌≡◌, ℕ, ◌-◌, Option, Some, None, List, [], ◌∷◌, ◌++◌, length, take, slice_get, count_by}
+use Rattle.std.specs.Prelude.{◌≡◌, ℕ, ◌-◌, Option, Some, None, List, [], ◌∷◌, ◌++◌, length, take, drop, slice_get, count_by}
 use Rattle.s2ix_bag_pairs.specs.declared.pair.Entry.{Entry}
 use Rattle.s2ix_bag_pairs.specs.declared.pair.Held.{Held}
-use Rattle.s2ix_bag_pairs.specs.Change.{changed, inverse_of}
+use Rattle.s2ix_bag_pairs.specs.Change.{change_between, changed, inverse_of}
 use Rattle.s2ix_bag_pairs.specs.Collection.{Collection, LimitedCollection}
 use Rattle.s2ix_table.specs.Faces.{faces, has_entry_on}
 use Rattle.s2ix_edit_plan.specs.declared.edit.Edit.{Edit}
 use Rattle.s2ix_edit_plan.specs.Edit.{edited}
+use Rattle.s2ix_edit_plan.specs.Removals.{removal_change, without_rows}
 use Rattle.s2ix_edit_plan.specs.Rows.{rows_change, with_rows}
 use Rattle.s2ix_edit_plan.specs.State.{State, change_of, history_of}
+use Rattle.s2ix_edit.specs.Shortened.{steps_before}
 
 -- a bag with another collection
 abbrev pub with_held : LimitedCollection → Collection → LimitedCollection
@@ -34,6 +36,15 @@ after_rows s rows = record {
   done = s.done ++ rows_change s.bag.held rows ∷ [];
   undone = [];
   faces_rebuilt = faces_of (rows_change s.bag.held rows);
+}
+
+-- the store after rows are removed: they are one change
+abbrev pub after_removal : State → List Held → State
+after_removal s rows = record {
+  bag = with_held s.bag (without_rows rows s.bag.held);
+  done = s.done ++ removal_change s.bag.held rows ∷ [];
+  undone = [];
+  faces_rebuilt = faces_of (removal_change s.bag.held rows);
 }
 
 -- the store after planned entries: its bag has the counts after, and they are the last change that was done
@@ -90,6 +101,33 @@ redo_size s = elim (last_undone s) [ Some es ↦ length es | None ↦ 0 ]
 -- the store after its changes are forgotten
 abbrev pub after_forget : State → State
 after_forget s = record { bag = s.bag; done = []; undone = []; faces_rebuilt = s.faces_rebuilt }
+
+-- the store after all changes done but the newest, so many, are forgotten; what can be redone stays
+abbrev pub after_forget_older : State → ℕ → State
+after_forget_older s newest = record {
+  bag = s.bag;
+  done = drop (length s.done - newest) s.done;
+  undone = s.undone;
+  faces_rebuilt = s.faces_rebuilt;
+}
+
+-- the change that the last changes done, so many, make together
+abbrev pub joined_last : State → ℕ → List Entry
+joined_last s number = change_between (steps_before number (history_of s)) s.bag.held
+
+-- a change as the list that has no other; one without entries is no change
+abbrev pub recorded_alone : List Entry → List (List Entry)
+recorded_alone [] = []
+recorded_alone (e ∷ es) = (e ∷ es) ∷ []
+
+-- the store after the last changes done, so many, become one; what can be redone stays
+abbrev pub after_join : State → ℕ → State
+after_join s number = record {
+  bag = s.bag;
+  done = take (length s.done - number) s.done ++ recorded_alone (joined_last s number);
+  undone = s.undone;
+  faces_rebuilt = s.faces_rebuilt;
+}
 
 -- the last change of one list is now at the end of the other, and has this many entries
 pub record IsShifted (from to from_after to_after : List (List Entry)) (number : ℕ) : Type 0 where

@@ -1,6 +1,6 @@
 //! Laws: functions that do nothing; their contracts state facts about definitions.
 
-ghost use Rattle.std.specs.Prelude.{◌≡◌, ◌≢◌, ◌↔◌, ◌≤◌, ℕ, ◌+◌, pos, ◌+ℤ◌, Some, None, false, ◌<◌, [], ◌∷◌, ◌++◌, length, reverse, slice_get, take, All, List};
+ghost use Rattle.std.specs.Prelude.{◌≡◌, ◌≢◌, ◌↔◌, ◌≤◌, IsTrue, ℕ, ◌+◌, ◌-◌, pos, ◌+ℤ◌, Some, None, false, ◌<◌, [], ◌∷◌, ◌++◌, length, drop, reverse, slice_get, take, All, List};
 ghost use Rattle.s2ix_bag_pairs.specs.declared.label.Label.{Label};
 ghost use Rattle.s2ix_bag_pairs.specs.declared.limits.Limits.{Limits};
 ghost use Rattle.s2ix_bag_pairs.specs.declared.pair.Entry.{Entry};
@@ -16,13 +16,36 @@ ghost use Rattle.s2ix_edit_plan.specs.declared.edit.Edit.TheVariants.{Add, DropL
 ghost use Rattle.s2ix_edit_plan.specs.Edit.{edited, edited_by};
 ghost use Rattle.s2ix_edit_plan.specs.History.{changes_along, cursor_alone, one_back, one_on, with_next};
 ghost use Rattle.s2ix_edit_plan.specs.State.{State, change_of, history_of, starting_at};
+ghost use Rattle.s2ix_edit_plan.specs.Removals.{removal_change};
 ghost use Rattle.s2ix_edit_plan.specs.Rows.{rows_change, rows_refusal};
 ghost use Rattle.s2ix_edit_plan.specs.Refusals.{edit_refusal, goes_below_zero, has_count_above, lacks_change, reverts};
+ghost use Rattle.s2ix_edit.specs.declared.history_error.HistoryError.{HistoryError};
+ghost use Rattle.s2ix_edit.specs.declared.history_error.JoinError.{JoinError};
+ghost use Rattle.s2ix_edit.specs.declared.history_error.RecordError.{RecordError};
+ghost use Rattle.s2ix_edit.specs.Given.{after_apply, given_refusal, history_refusal, led_by};
+ghost use Rattle.s2ix_edit.specs.OneChange.{change_refusal};
 ghost use Rattle.s2ix_edit.specs.Recorded.{IsRecorded};
 ghost use Rattle.s2ix_edit.specs.Standing.{first_collection, gain_along, without_numbered};
-ghost use Rattle.s2ix_edit.specs.Steps.{after_edit, after_forget, after_redo, after_rows, after_undo, with_held};
+ghost use Rattle.s2ix_edit.specs.Shortened.{steps_before, up_to_cursor, with_joined, with_newest};
+ghost use Rattle.s2ix_edit.specs.Steps.{after_edit, after_forget, after_forget_older, after_join, after_record, after_redo, after_removal, after_rows, after_undo, joined_last, with_held};
 ghost use Rattle.s2ix_edit.specs.Store.{IsStore};
 ghost use Rattle.s2ix_table_walk.specs.Table.{Range, IsRangeTable};
+
+use crate::history_error::{HistoryError, JoinError, RecordError};
+
+/// Two errors are equal exactly if they are the same.
+pub fn equal_errors_are_one()
+    ensures history { (a b : HistoryError) → IsTrue (⟦<HistoryError as PartialEq>⟧.eq a b) ↔ (a ≡ b) }
+    ensures record_change { (a b : RecordError) → IsTrue (⟦<RecordError as PartialEq>⟧.eq a b) ↔ (a ≡ b) }
+    ensures join { (a b : JoinError) → IsTrue (⟦<JoinError as PartialEq>⟧.eq a b) ↔ (a ≡ b) }
+{}
+
+/// An error's clone is that error.
+pub fn cloned_errors_are_the_same()
+    ensures history { (error copy : HistoryError) → ⟦<HistoryError as Clone>⟧.is_clone error copy ↔ (copy ≡ error) }
+    ensures record_change { (error copy : RecordError) → ⟦<RecordError as Clone>⟧.is_clone error copy ↔ (copy ≡ error) }
+    ensures join { (error copy : JoinError) → ⟦<JoinError as Clone>⟧.is_clone error copy ↔ (copy ≡ error) }
+{}
 
 /// The change that an edit records has the two counts of exactly the pairs whose counts the edit changes.
 pub fn edit_records_differences()
@@ -71,6 +94,37 @@ pub fn one_row_is_an_add()
         → after_rows s (row ∷ []) ≡ after_edit s (Add row.pair row.count) }
 {}
 
+/// An undo takes all removed rows back: the bag and the changes that were done are as they were, and the change of the rows can be done
+/// again.
+pub fn undo_takes_removed_rows_back()
+    ensures bag { (s : State) (rows : List Held)
+        → IsStore s
+        → (after_undo (after_removal s rows)).bag ≡ s.bag }
+    ensures done { (s : State) (rows : List Held)
+        → IsStore s
+        → (after_undo (after_removal s rows)).done ≡ s.done }
+    ensures undone { (s : State) (rows : List Held)
+        → IsStore s
+        → (after_undo (after_removal s rows)).undone ≡ removal_change s.bag.held rows ∷ [] }
+{}
+
+/// One row that is removed makes the store that a `Remove` makes.
+pub fn one_row_is_a_remove()
+    ensures { (s : State) (row : Held)
+        → IsStore s
+        → after_removal s (row ∷ []) ≡ after_edit s (Remove row.pair row.count) }
+{}
+
+/// A change that is given alone is refused exactly if `apply` refuses it, and makes the same store.
+pub fn one_change_is_applied()
+    ensures refusal { (s : State) (es : List Entry) → (change_refusal s es ≡ None) ↔ (given_refusal s (es ∷ []) ≡ None) }
+    ensures store { (s : State) (es : List Entry)
+        → IsStore s
+        → IsChangeList es
+        → change_refusal s es ≡ None
+        → after_apply s (es ∷ []) ≡ after_record s es }
+{}
+
 /// An edit and then an undo restore the range table too, since they restore the bag, and two equal bags have one.
 pub fn undo_restores_the_table()
     ensures { (s : State) (edit : Edit) (before after : List Range)
@@ -100,18 +154,36 @@ pub fn steps_keep_limits()
     ensures edit { (s : State) (edit : Edit) → (after_edit s edit).bag.limits ≡ s.bag.limits }
     ensures undo { (s : State) → (after_undo s).bag.limits ≡ s.bag.limits }
     ensures redo { (s : State) → (after_redo s).bag.limits ≡ s.bag.limits }
+    ensures record_change { (s : State) (es : List Entry) → (after_record s es).bag.limits ≡ s.bag.limits }
+    ensures remove_all { (s : State) (rows : List Held) → (after_removal s rows).bag.limits ≡ s.bag.limits }
     ensures forget { (s : State) → (after_forget s).bag.limits ≡ s.bag.limits }
+    ensures forget_older { (s : State) (newest : ℕ) → (after_forget_older s newest).bag.limits ≡ s.bag.limits }
+    ensures join { (s : State) (number : ℕ) → (after_join s number).bag.limits ≡ s.bag.limits }
+    ensures apply { (s : State) (changes : List (List Entry)) → (after_apply s changes).bag.limits ≡ s.bag.limits }
 {}
 
-/// Each step of a store leads to a store: an edit that is accepted, an undo and a redo of a change that there is, and forgetting.
+/// Each step of a store leads to a store: an edit or a given change that is accepted, an undo and a redo of a change that there is,
+/// forgetting, of all changes or of older ones, a join, and given changes that are not refused.
 pub fn steps_lead_to_stores()
     ensures edit { (s : State) (edit : Edit)
         → IsStore s
         → edit_refusal s edit ≡ None
         → IsStore (after_edit s edit) }
+    ensures record_change { (s : State) (es : List Entry)
+        → IsStore s
+        → IsChangeList es
+        → change_refusal s es ≡ None
+        → IsStore (after_record s es) }
     ensures undo { (s : State) → IsStore s → s.done ≢ [] → IsStore (after_undo s) }
     ensures redo { (s : State) → IsStore s → s.undone ≢ [] → IsStore (after_redo s) }
     ensures forget { (s : State) → IsStore s → IsStore (after_forget s) }
+    ensures forget_older { (s : State) (newest : ℕ) → IsStore s → IsStore (after_forget_older s newest) }
+    ensures join { (s : State) (number : ℕ) → IsStore s → IsStore (after_join s number) }
+    ensures apply { (s : State) (changes : List (List Entry))
+        → IsStore s
+        → All IsChangeList changes
+        → given_refusal s changes ≡ None
+        → IsStore (after_apply s changes) }
 {}
 
 /// A store stands at one place of its history: the bag holds the collection at the cursor, each collection is within the limits, and the
@@ -167,7 +239,7 @@ pub fn counts_are_first_and_standing()
 {}
 
 /// Edits, undos and redos keep the first collection. It is the one that the bag holds when a store starts, and after its changes are
-/// forgotten.
+/// forgotten; if only older ones are, it is the one before those that are kept.
 pub fn steps_keep_the_first_collection()
     ensures start { (bag : LimitedCollection) → first_collection (starting_at bag) ≡ bag.held }
     ensures edit { (s : State) (edit : Edit)
@@ -182,6 +254,16 @@ pub fn steps_keep_the_first_collection()
         → s.undone ≢ []
         → first_collection (after_redo s) ≡ first_collection s }
     ensures forget { (s : State) → first_collection (after_forget s) ≡ s.bag.held }
+    ensures forget_older { (s : State) (newest : ℕ)
+        → first_collection (after_forget_older s newest) ≡ steps_before newest (history_of s) }
+    ensures join { (s : State) (number : ℕ)
+        → IsStore s
+        → first_collection (after_join s number) ≡ first_collection s }
+    ensures apply { (s : State) (changes : List (List Entry))
+        → IsStore s
+        → All IsChangeList changes
+        → given_refusal s changes ≡ None
+        → first_collection (after_apply s changes) ≡ first_collection s }
 {}
 
 /// After an accepted `Revert` each count is that of the first collection and the differences of the changes that stood, the
@@ -252,8 +334,59 @@ pub fn dropped_labels_change_something()
         → edit_refusal s (DropLabel label) ≢ Some NoChange }
 {}
 
+/// Forgetting all changes but as many as can be undone changes nothing.
+pub fn kept_changes_are_not_forgotten()
+    ensures { (s : State) (newest : ℕ)
+        → length s.done ≤ newest
+        → after_forget_older s newest ≡ s }
+{}
+
+/// A bag and its changes are a store again: a store's bag takes the changes that were done as a history, and so `Store::with_history` gives
+/// the store back, but for what could be redone and for `faces_rebuilt`, which is 0. Its history is the store's up to the cursor. Changes
+/// that a bag takes as a history always make a store.
+pub fn histories_come_back()
+    ensures accepted { (s : State) → IsStore s → history_refusal s.bag s.done ≡ None }
+    ensures history { (s : State)
+        → IsStore s
+        → history_of (led_by s.bag s.done) ≡ up_to_cursor (history_of s) }
+    ensures store { (bag : LimitedCollection) (changes : List (List Entry))
+        → IsBag bag
+        → All IsChangeList changes
+        → history_refusal bag changes ≡ None
+        → IsStore (led_by bag changes) }
+{}
+
+/// Joined changes are taken back at once: an undo leads to the collection before them, and to the changes before them.
+pub fn undo_takes_joined_changes_back()
+    ensures { (s : State) (number : ℕ)
+        → IsStore s
+        → joined_last s number ≢ []
+        → ((after_undo (after_join s number)).bag ≡ with_held s.bag (steps_before number (history_of s)))
+        × ((after_undo (after_join s number)).done ≡ take (length s.done - number) s.done) }
+{}
+
+/// A store follows another. If it has the bag that the other had so many changes ago, it comes to the other's bag by doing the changes since,
+/// and does so unless its journal has no room for them. So two stores with equal bags have equal bags again if the one does what an edit of
+/// the other did.
+pub fn stores_follow_each_other()
+    ensures changes { (s other : State) (number : ℕ)
+        → IsStore other
+        → s.bag ≡ with_held other.bag (steps_before number (history_of other))
+        → length s.done + number ≤ changes_limit s.bag.limits
+        → (given_refusal s (drop (length other.done - number) other.done) ≡ None)
+        × ((after_apply s (drop (length other.done - number) other.done)).bag ≡ other.bag) }
+    ensures edit { (s other : State) (edit : Edit)
+        → IsStore other
+        → s.bag ≡ other.bag
+        → edit_refusal other edit ≡ None
+        → length s.done < changes_limit s.bag.limits
+        → (given_refusal s (change_of other edit ∷ []) ≡ None)
+        × ((after_apply s (change_of other edit ∷ [])).bag ≡ (after_edit other edit).bag) }
+{}
+
 /// Each step of a store is the step of its history: an edit goes on to the edited collection, undo goes back by one,
-/// redo on by one, and forget keeps only the collection at the cursor.
+/// redo on by one, and forget keeps only the collection at the cursor. If older changes are forgotten, the history starts later. A join
+/// leaves out what lies between the collection before the joined changes and the cursor's.
 pub fn steps_follow_the_history()
     ensures edit { (s : State) (edit : Edit)
         → IsStore s
@@ -267,4 +400,9 @@ pub fn steps_follow_the_history()
         → s.undone ≢ []
         → history_of (after_redo s) ≡ one_on (history_of s) }
     ensures forget { (s : State) → history_of (after_forget s) ≡ cursor_alone (history_of s) }
+    ensures forget_older { (s : State) (newest : ℕ)
+        → history_of (after_forget_older s newest) ≡ with_newest newest (history_of s) }
+    ensures join { (s : State) (number : ℕ)
+        → IsStore s
+        → history_of (after_join s number) ≡ with_joined number (history_of s) }
 {}

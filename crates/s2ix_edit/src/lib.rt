@@ -6,15 +6,20 @@
 //! beside it, for queries.
 //!
 //! Bag and table are kept in parts of some hundred pairs. A step makes anew only the parts that it changes, and copies a short list of all of
-//! them. A store drops no change by itself: when the number of changes that can be undone reaches the limit, edits are refused until one is
-//! undone or all are forgotten.
+//! them. A store drops no change by itself: when the number of changes that can be undone reaches the limit, edits are refused until some
+//! are undone, joined or forgotten.
 #![tactic(auto)]
 
+mod given;
+mod history_error;
 pub mod laws;
 mod steps;
 mod store;
 mod store_table;
 
-pub use s2ix_edit_plan::{Edit, EditError, RedoError, UndoError, plan, plan_rows, region_of};
+pub use history_error::{HistoryError, JoinError, RecordError};
+pub use s2ix_edit_plan::{
+    Edit, EditError, RedoError, RemoveError, UndoError, plan, plan_removals, plan_rows, region_of,
+};
 pub use store::Store;
 pub use store_table::StoreTable;

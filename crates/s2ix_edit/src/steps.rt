@@ -1,7 +1,7 @@
 //! What edits, undos and redos are made of: a bag after a change; its range table, for which only the faces that the change has entries on
 //! are read again; and a change that is shifted from one list to the other. What can want memory comes first, the table last of it.
 
-ghost use Rattle.std.specs.Prelude.{◌≡◌, ◌<◌, ◌≤◌, ◌+◌, ◌*◌, length, None, IfOk, IfErr, OnOk, OnErr, vec_capacity, vec_len};
+ghost use Rattle.std.specs.Prelude.{◌≡◌, ◌<◌, ◌≤◌, ◌+◌, ◌-◌, ◌*◌, drop, length, None, IfOk, IfErr, OnOk, OnErr, vec_capacity, vec_len};
 ghost use Rattle.s2id_core.specs.BinaryDigits.{binary_digits};
 ghost use Rattle.s2ix_bag_lists.specs.Apply.{apply_refusal, first_mismatch};
 ghost use Rattle.s2ix_bag_pairs.specs.Change.{changed};
@@ -78,12 +78,12 @@ pub(crate) fn apply_recorded(alloc: Global, bag: &Bag, change: &Change) -> Resul
     }
 }
 
-// Makes room for one change more. The list stays.
-pub(crate) fn make_room(changes: &mut Vec<Change>) -> Result<(), OutOfMemory>
+// Makes room for so many changes more. The list stays.
+pub(crate) fn make_room(changes: &mut Vec<Change>, more: usize) -> Result<(), OutOfMemory>
     ensures stay { changes.new.items ≡ changes.old.items }
-    ensures room { OnOk result (vec_len changes.new < vec_capacity changes.new) }
+    ensures room { OnOk result (vec_len changes.new + more ≤ vec_capacity changes.new) }
 {
-    changes.reserve(1)?;
+    changes.reserve(more)?;
     Ok(())
 }
 
@@ -99,4 +99,14 @@ pub(crate) fn shift_last(from: &mut Vec<Change>, to: &mut Vec<Change>) -> usize
     let number = change.entries().len();
     to.push_reserved(change);
     number
+}
+
+// Drops all changes but the last ones, so many. It does not allocate.
+pub(crate) fn keep_newest(changes: &mut Vec<Change>, newest: usize)
+    ensures { changes.new.items ≡ drop (length changes.old.items - newest) changes.old.items }
+{
+    let number = changes.len();
+    if number > newest {
+        changes.drain(..number - newest);
+    }
 }

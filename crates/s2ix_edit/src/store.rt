@@ -1,8 +1,8 @@
-ghost use Rattle.std.specs.Prelude.{◌≡◌, ◌≢◌, ◌↔◌, ◌+◌, ◌<◌, ◌≤◌, true, false, [], ◌∷◌, length, reverse, None, IfOk, IfErr, OnOk, OnErr, All};
+ghost use Rattle.std.specs.Prelude.{◌≡◌, ◌≢◌, ◌↔◌, ◌+◌, ◌-◌, ◌<◌, ◌≤◌, true, false, [], ◌∷◌, length, reverse, take, None, IfOk, IfErr, OnOk, OnErr, All};
 ghost use Rattle.s2id_union.specs.Region.{HaveSameRegion, IsNormal};
-ghost use Rattle.s2ix_bag_lists.specs.Apply.{first_mismatch};
+ghost use Rattle.s2ix_bag_lists.specs.Apply.{apply_refusal, first_mismatch};
 ghost use Rattle.s2ix_bag_pairs.specs.declared.pair.Pair.{Pair};
-ghost use Rattle.s2ix_bag_pairs.specs.Change.{counts_at, difference_of};
+ghost use Rattle.s2ix_bag_pairs.specs.Change.{changed, counts_at, difference_of};
 ghost use Rattle.s2ix_bag_pairs.specs.Collection.{IsBag, copies_in, count_in};
 ghost use Rattle.s2ix_bag_pairs.specs.Limits.{changes_limit, count_limit, pairs_limit};
 ghost use Rattle.s2ix_bag_pairs.specs.Pair.{rank_of};
@@ -11,21 +11,33 @@ ghost use Rattle.s2ix_edit_plan.specs.Edit.{edited};
 ghost use Rattle.s2ix_edit_plan.specs.History.{alone, cursor_alone, one_back, one_on, with_next};
 ghost use Rattle.s2ix_edit_plan.specs.Plan.{entries_refusal};
 ghost use Rattle.s2ix_edit_plan.specs.Refusals.{asks_no_copies, asks_too_fine, edit_refusal, goes_below_zero, has_count_above, lacks_change, lacks_label, reverts, takes_too_many};
+ghost use Rattle.s2ix_edit_plan.specs.Removals.{IsRemoveRefusal, removal_change, removal_refusal, without_rows};
 ghost use Rattle.s2ix_edit_plan.specs.Rows.{copies_at, rows_change, rows_refusal, with_rows};
 ghost use Rattle.s2ix_edit_plan.specs.Region.{cells_of, region_of as region_in};
 ghost use Rattle.s2ix_edit_plan.specs.State.{State, change_of, history_of, starting_at};
+ghost use Rattle.s2ix_bag.specs.Replay.{first_refusal, way_back, with_numbers};
+ghost use Rattle.s2ix_edit.specs.Given.{IsHistoryError, after_apply, apply_size, given_refusal, history_refusal, led_by, record_refusal};
+ghost use Rattle.s2ix_edit.specs.OneChange.{IsRecordRefusal, change_refusal};
 ghost use Rattle.s2ix_edit.specs.Recorded.{IsRecorded};
-ghost use Rattle.s2ix_edit.specs.Steps.{after_edit, after_forget, after_record, after_redo, after_rows, after_undo, redo_size, undo_size};
+ghost use Rattle.s2ix_edit.specs.Shortened.{with_joined, with_newest};
+ghost use Rattle.s2ix_edit.specs.Steps.{after_edit, after_forget, after_forget_older, after_join, after_record, after_redo, after_removal, after_rows, after_undo, joined_last, redo_size, undo_size, with_held};
 ghost use Rattle.s2ix_edit.specs.Store.{CanGoBack, CanGoOn, HasRoom, IsStore};
 ghost use Rattle.s2ix_table_walk.specs.Table.{IsRangeTable};
 
-use crate::steps::{apply_planned, apply_recorded, make_room, rebuild_for, shift_last};
+use crate::given::{append_within, joined_change, replace_from, test_history, test_recordable};
+use crate::history_error::{HistoryError, JoinError, RecordError};
+use crate::steps::{
+    apply_planned, apply_recorded, keep_newest, make_room, rebuild_for, shift_last,
+};
 use crate::store_table::StoreTable;
 use s2id_core::OutOfMemory;
 use s2id_union::CellUnion;
+use s2ix_bag::replay;
 use s2ix_bag_changes::{Bag, Change};
 use s2ix_bag_pairs::{Held, Label, Limits};
-use s2ix_edit_plan::{Edit, EditError, RedoError, UndoError, plan, plan_rows, region_of};
+use s2ix_edit_plan::{
+    Edit, EditError, RedoError, RemoveError, UndoError, plan, plan_removals, plan_rows, region_of,
+};
 use s2ix_table::changed_face_count;
 use s2ix_table_queries::RangeTable;
 use std::alloc::Global;
@@ -80,6 +92,35 @@ impl Store {
     {
         let table = StoreTable::build(alloc, &bag)?;
         Ok(Store::starting(alloc, bag, table))
+    }
+
+    /// A store that goes on from a history: it starts from its bag, with the bag's limits, and `changes`, the oldest first, can be undone as if
+    /// it had done them. The last of them led to the bag. Nothing can be redone. So a store comes back from its bag and what
+    /// [`done`](Store::done) gives. [`HistoryError`] says when the changes are refused: they are tested from the last on, as
+    /// [`rewind`](s2ix_bag::rewind) does. `OutOfMemory` if a growth is refused; it comes in place of no refusal but that of a change before
+    /// the last. After a refusal bag and changes are dropped. O(n + m log n) for n pairs and m entries in all changes. This project's own.
+    pub fn with_history(
+        alloc: Global,
+        bag: Bag,
+        changes: Vec<Change>,
+    ) -> Result<Store, HistoryError>
+        ensures state { IfOk result (λ store. store ≡ led_by bag changes.items) }
+        ensures accepted { OnOk result (history_refusal bag changes.items ≡ None) }
+        ensures refused { IfErr result (λ error. IsHistoryError error (history_refusal bag changes.items)) }
+        ensures recordable { result ≡ Err HistoryError.OutOfMemory → record_refusal (changes_limit bag.limits) changes.items ≡ None }
+        ensures last { result ≡ Err HistoryError.OutOfMemory
+            → first_refusal bag (take 1 (way_back (with_numbers changes.items))) ≡ None }
+    {
+        test_history(alloc, &bag, changes.as_slice())?;
+        let table = StoreTable::build(alloc, &bag)?;
+        Ok(Store {
+            alloc,
+            bag,
+            table,
+            done: changes,
+            undone: Vec::new(alloc),
+            faces_rebuilt: 0,
+        })
     }
 
     // The store of a bag and its table, with nothing to undo or redo.
@@ -196,6 +237,55 @@ impl Store {
         }
     }
 
+    /// Takes the copies of each row from the count of the row's pair, as one change, and returns how many pairs lost copies. Rows come in
+    /// any order, and the copies of a pair that comes more than once are added up. The change is recorded as that of an edit is: it can be
+    /// undone, done again and reverted. A refusal changes nothing. [`RemoveError`] says when each refusal is due: all rows are removed or
+    /// none, and no limit is ever passed. For m rows it costs O(m log m) more than an edit of m entries does, and O(log m) times that if a
+    /// row is `NotHeld`. This project's own.
+    pub fn remove_all(&mut self, rows: &[Held]) -> Result<usize, RemoveError>
+        ensures state { OnOk result (self.new ≡ after_removal self.old rows.now) }
+        ensures history { OnOk result (history_of self.new
+            ≡ with_next (history_of self.old) (without_rows rows.now self.old.bag.held)) }
+        ensures counts { OnOk result ((pair : Pair)
+            → count_in self.old.bag.held pair ≡ count_in self.new.bag.held pair + copies_at rows.now (rank_of pair)) }
+        ensures number { IfOk result (λ n. n ≡ length (removal_change self.old.bag.held rows.now)) }
+        ensures accepted { OnOk result (removal_refusal self.old rows.now ≡ None) }
+        ensures refused { IfErr result (λ error. IsRemoveRefusal error (removal_refusal self.old rows.now)) }
+        ensures unchanged { OnErr result (self.new ≡ self.old) }
+    {
+        let most = self.bag.limits().changes() as usize;
+        if self.done.len() >= most {
+            return Err(RemoveError::JournalFull);
+        }
+        let losses = plan_removals(self.alloc, &self.bag, rows)?;
+        let bag = apply_recorded(self.alloc, &self.bag, &losses)?;
+        Ok(self.go_to(bag, losses)?)
+    }
+
+    /// Does a change that is given, and returns how many pairs it has. It is recorded as that of an edit is, and empties `undone`. So a change
+    /// between two bags, or one that another store did, becomes one step. A refusal changes nothing, and the change is dropped.
+    /// [`RecordError`] says when each refusal is due; `OutOfMemory` comes in place of no other. It costs what an edit with this change does
+    /// beside its plan. This project's own.
+    pub fn record(&mut self, change: Change) -> Result<usize, RecordError>
+        ensures state { OnOk result (self.new ≡ after_record self.old change) }
+        ensures history { OnOk result (history_of self.new
+            ≡ with_next (history_of self.old) (changed self.old.bag.held change)) }
+        ensures number { IfOk result (λ n. n ≡ length change) }
+        ensures accepted { OnOk result (change_refusal self.old change ≡ None) }
+        ensures refused { IfErr result (λ error. IsRecordRefusal error (change_refusal self.old change)) }
+        ensures unchanged { OnErr result (self.new ≡ self.old) }
+    {
+        let most = self.bag.limits().changes() as usize;
+        if self.done.len() >= most {
+            return Err(RecordError::JournalFull);
+        }
+        if change.entries().is_empty() {
+            return Err(RecordError::NoChange);
+        }
+        let next = self.bag.applied(self.alloc, &change)?;
+        Ok(self.go_to(next, change)?)
+    }
+
     // Carries planned entries out, whatever edit they come from.
     fn record_change(&mut self, change: Change) -> Result<usize, EditError>
         requires room { HasRoom self.old }
@@ -208,10 +298,24 @@ impl Store {
         ensures memory { result ≡ Err EditError.OutOfMemory → entries_refusal self.old.bag change ≡ None }
         ensures unchanged { OnErr result (self.new ≡ self.old) }
     {
+        let bag = apply_planned(self.alloc, &self.bag, &change)?;
+        Ok(self.go_to(bag, change)?)
+    }
+
+    // Goes on to the bag that a change makes, and records the change. It can fail only for want of memory.
+    fn go_to(&mut self, bag: Bag, change: Change) -> Result<usize, OutOfMemory>
+        requires room { HasRoom self.old }
+        requires some { 0 < length change }
+        requires fits { apply_refusal self.old.bag change ≡ None }
+        requires made { bag ≡ with_held self.old.bag (changed self.old.bag.held change) }
+        requires within { IsBag bag }
+        ensures state { OnOk result (self.new ≡ after_record self.old change) }
+        ensures number { IfOk result (λ n. n ≡ length change) }
+        ensures unchanged { OnErr result (self.new ≡ self.old) }
+    {
         let number = change.entries().len();
         let faces = changed_face_count(&change);
-        let bag = apply_planned(self.alloc, &self.bag, &change)?;
-        make_room(&mut self.done)?;
+        make_room(&mut self.done, 1)?;
         rebuild_for(self.alloc, &mut self.table, &bag, &change)?;
         self.done.push_reserved(change);
         self.undone.clear();
@@ -241,7 +345,7 @@ impl Store {
         let faces = changed_face_count(last);
         let inverse = last.inverse(self.alloc)?;
         let bag = apply_recorded(self.alloc, &self.bag, &inverse)?;
-        make_room(&mut self.undone)?;
+        make_room(&mut self.undone, 1)?;
         rebuild_for(self.alloc, &mut self.table, &bag, &inverse)?;
         let number = shift_last(&mut self.done, &mut self.undone);
         self.bag = bag;
@@ -269,12 +373,65 @@ impl Store {
         };
         let faces = changed_face_count(last);
         let bag = apply_recorded(self.alloc, &self.bag, last)?;
-        make_room(&mut self.done)?;
+        make_room(&mut self.done, 1)?;
         rebuild_for(self.alloc, &mut self.table, &bag, last)?;
         let number = shift_last(&mut self.undone, &mut self.done);
         self.bag = bag;
         self.faces_rebuilt = faces;
         Ok(number)
+    }
+
+    /// Makes one change of the newest ones that can be undone, `last` of them. One undo then takes them back together. Its entries are the
+    /// pairs whose counts differ between the collection before them and now; if none differ, the changes are gone. Returns how many pairs
+    /// differ. With `last` 0 or 1 nothing changes. Collection and table stay, and so does what can be redone. `TooFewChanges` is tested
+    /// first; then `OutOfMemory` if a growth is refused. O(n + m log n) for n pairs and m entries in these changes. This project's own.
+    pub fn join(&mut self, last: usize) -> Result<usize, JoinError>
+        ensures state { OnOk result (self.new ≡ after_join self.old last) }
+        ensures history { OnOk result (history_of self.new ≡ with_joined last (history_of self.old)) }
+        ensures number { IfOk result (λ n. n ≡ length (joined_last self.old last)) }
+        ensures too_few { (result ≡ Err JoinError.TooFewChanges) ↔ (length self.old.done < last) }
+        ensures unchanged { OnErr result (self.new ≡ self.old) }
+    {
+        let number = self.done.len();
+        if number < last {
+            return Err(JoinError::TooFewChanges);
+        }
+        let change = joined_change(self.alloc, &self.bag, &self.done[number - last..])?;
+        let pairs = change.entries().len();
+        replace_from(&mut self.done, number - last, change);
+        Ok(pairs)
+    }
+
+    /// Does changes in their order, as [`replay`](s2ix_bag::replay) does: what another store did, from an equal bag on. Each can be undone by
+    /// itself, and what could be redone is gone. Returns how many pairs have another count than before. If there are no changes, nothing
+    /// happens. [`HistoryError`] says when they are refused; then nothing changes, and they are dropped. `OutOfMemory` if a growth is
+    /// refused; it comes in place of no refusal but that of a change after the first. O(n + m log n) for n pairs and m entries in all
+    /// changes. This project's own.
+    pub fn apply(&mut self, changes: Vec<Change>) -> Result<usize, HistoryError>
+        ensures state { OnOk result (self.new ≡ after_apply self.old changes.items) }
+        ensures number { IfOk result (λ n. n ≡ apply_size self.old changes.items) }
+        ensures accepted { OnOk result (given_refusal self.old changes.items ≡ None) }
+        ensures refused { IfErr result (λ error. IsHistoryError error (given_refusal self.old changes.items)) }
+        ensures recordable { result ≡ Err HistoryError.OutOfMemory
+            → record_refusal (changes_limit self.old.bag.limits - length self.old.done) changes.items ≡ None }
+        ensures first { result ≡ Err HistoryError.OutOfMemory
+            → first_refusal self.old.bag (take 1 (with_numbers changes.items)) ≡ None }
+        ensures unchanged { OnErr result (self.new ≡ self.old) }
+    {
+        if changes.is_empty() {
+            return Ok(0);
+        }
+        let room = self.bag.limits().changes() as usize - self.done.len();
+        test_recordable(changes.as_slice(), room)?;
+        let bag = replay(self.alloc, &self.bag, changes.as_slice())?;
+        let whole = Change::between(self.alloc, &self.bag, &bag)?;
+        make_room(&mut self.done, changes.len())?;
+        rebuild_for(self.alloc, &mut self.table, &bag, &whole)?;
+        append_within(&mut self.done, changes);
+        self.undone.clear();
+        self.bag = bag;
+        self.faces_rebuilt = changed_face_count(&whole);
+        Ok(whole.entries().len())
     }
 
     /// Keeps the collection and drops all changes: nothing is left to undo or redo. It does not allocate. O(k) for the k changes that are
@@ -285,6 +442,17 @@ impl Store {
     {
         self.done.clear();
         self.undone.clear();
+    }
+
+    /// Keeps the newest of the changes that can be undone, at most so many of them, and drops those before them: so a full journal gets room
+    /// and undo still takes the last steps back. The collection stays, and so does what can be redone. If no more changes can be undone than
+    /// are kept, nothing is dropped. With `newest` 0 nothing is left to undo. It does not allocate. O(k) for the k changes that can be
+    /// undone. This project's own.
+    pub fn forget_older(&mut self, newest: usize)
+        ensures state { self.new ≡ after_forget_older self.old newest }
+        ensures history { history_of self.new ≡ with_newest newest (history_of self.old) }
+    {
+        keep_newest(&mut self.done, newest);
     }
 
     /// The collection that the store has come to.
@@ -303,7 +471,7 @@ impl Store {
         &self.table
     }
 
-    /// How many faces, 0 to 6, the last accepted edit, undo or redo rebuilt, if only in part: those with an entry of its change. It is 0 before the first
+    /// On how many faces, 0 to 6, the last accepted edit, list of rows, undo, redo, `record` or `apply` changed pairs. It is 0 before the first
     /// step, and a refused step leaves it as it was. O(1).
     pub fn faces_rebuilt(&self) -> u8
         ensures { result ≡ self.now.faces_rebuilt }

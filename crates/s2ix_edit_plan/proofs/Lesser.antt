@@ -32,7 +32,7 @@ use Rattle.s2ix_edit_plan.proofs.Sizes.{length_each, length_held, length_set}
 -- ---- counts within a limit
 
 -- a collection each of whose counts is within the limit has none above it
-small_from_counts : (c n : ℕ) (hs : Collection) → IsCollectionFrom n hs → ((k : ℕ) → count_at hs k ≤ c) → has_count_above c hs ≡ false
+pub small_from_counts : (c n : ℕ) (hs : Collection) → IsCollectionFrom n hs → ((k : ℕ) → count_at hs k ≤ c) → has_count_above c hs ≡ false
 small_from_counts c n [] is small = refl
 small_from_counts c n (h ∷ hs) is small =
     let own : h.count ≤ c = omega (arith, count_head h hs (rank_of h.pair) refl, small (rank_of h.pair)) in
@@ -43,7 +43,7 @@ small_from_counts c n (h ∷ hs) is small =
     (cases_eq (rank_of h.pair) k)) in
     ap (λ t. t || has_count_above c hs) (le-ltb c h.count own) ∙ rest
 
-bag_small : (bag : LimitedCollection) (k : ℕ) → IsBag bag → count_at bag.held k ≤ count_limit bag.limits
+pub bag_small : (bag : LimitedCollection) (k : ℕ) → IsBag bag → count_at bag.held k ≤ count_limit bag.limits
 bag_small bag k b = count_within (count_limit bag.limits) bag.held k (none_above (count_limit bag.limits) bag.held b.small)
 
 -- one copy for each of cells that are held with none
@@ -87,7 +87,7 @@ two_parts label hs = length-filter_both (is_of label) (λ h. not (is_of label h)
 -- ---- a removal
 
 -- a count that is set makes no pair more if the pair is held, or stays unheld
-no_more_set : (m : ℕ) (p : Pair) (n : ℕ) (hs : Collection) → IsCollectionFrom m hs → (count_in hs p ≡ 0 → n ≡ 0)
+pub no_more_set : (m : ℕ) (p : Pair) (n : ℕ) (hs : Collection) → IsCollectionFrom m hs → (count_in hs p ≡ 0 → n ≡ 0)
     → length (set_count p n hs) ≤ length hs
 no_more_set m p n [] is none = let zero = ap (λ k. length (held_with p k [])) (none refl) in omega (arith, zero)
 no_more_set m p n (h ∷ hs) is none =

@@ -13,6 +13,7 @@ mod Normalise
 pub mod Plans
 pub mod Refused
 mod Relabel
+pub mod Removals
 pub mod Revert
 pub mod Rows
 pub mod Sizes

@@ -27,23 +27,33 @@ use Rattle.s2ix_edit_plan.proofs.Refused.{planned_refusal, too_high, too_many}
 
 -- ---- where a bag refuses to take a change back
 
-is_high_back : LimitedCollection → List Entry → Bool
+pub is_high_back : LimitedCollection → List Entry → Bool
 is_high_back bag es = list_any (λ e. nat_lt (count_limit bag.limits) (count_back bag.held e)) es
 
-is_many_back : LimitedCollection → List Entry → Bool
+pub is_many_back : LimitedCollection → List Entry → Bool
 is_many_back bag es = nat_lt (pairs_limit bag.limits) (length (taken_back bag.held es))
 
+pub high_back_is : (bag : LimitedCollection) (es : List Entry)
+    → is_high_back bag es ≡ list_any (λ e. nat_lt (count_limit bag.limits) (count_back bag.held e)) es
+unfolding is_high_back
+high_back_is bag es = refl
+
+pub many_back_is : (bag : LimitedCollection) (es : List Entry)
+    → is_many_back bag es ≡ nat_lt (pairs_limit bag.limits) (length (taken_back bag.held es))
+unfolding is_many_back
+many_back_is bag es = refl
+
 -- the refusal, by whether a count would pass the limit, whether the pairs would, and the first count below 0
-refused_at : Bool → Bool → Option ℕ → Option RevertError
+pub refused_at : Bool → Bool → Option ℕ → Option RevertError
 refused_at high many (Some place) = Some (revert.BelowZero place)
 refused_at high many None = cond high (Some revert.TooManyCopies) (cond many (Some revert.TooManyPairs) None)
 
-refused_is : (bag : LimitedCollection) (es : List Entry)
+pub refused_is : (bag : LimitedCollection) (es : List Entry)
     → refused_at (is_high_back bag es) (is_many_back bag es) (first_below_zero bag.held es) ≡ revert_refusal bag es
 unfolding refused_at is_high_back is_many_back
 refused_is bag es = refl
 
-below_by : (high many : Bool) (below : Option ℕ) (place : ℕ) → refused_at high many below ≡ Some (revert.BelowZero place)
+pub below_by : (high many : Bool) (below : Option ℕ) (place : ℕ) → refused_at high many below ≡ Some (revert.BelowZero place)
     → is_some below ≡ true
 unfolding refused_at
 below_by high many (Some found) place is = refl
@@ -51,14 +61,14 @@ below_by true many None place is = cc
 below_by false true None place is = cc
 below_by false false None place is = cc
 
-copies_by : (high many : Bool) (below : Option ℕ) → refused_at high many below ≡ Some revert.TooManyCopies → (below ≡ None) × (high ≡ true)
+pub copies_by : (high many : Bool) (below : Option ℕ) → refused_at high many below ≡ Some revert.TooManyCopies → (below ≡ None) × (high ≡ true)
 unfolding refused_at
 copies_by high many (Some found) is = cc
 copies_by true many None is = (refl, refl)
 copies_by false true None is = cc
 copies_by false false None is = cc
 
-pairs_by : (high many : Bool) (below : Option ℕ) → refused_at high many below ≡ Some revert.TooManyPairs
+pub pairs_by : (high many : Bool) (below : Option ℕ) → refused_at high many below ≡ Some revert.TooManyPairs
     → (below ≡ None) × (high ≡ false) × (many ≡ true)
 unfolding refused_at
 pairs_by high many (Some found) is = cc

@@ -303,7 +303,7 @@ gains_plan bag rows sorted b order same =
     }
 
 -- rows of no copies are carried out by no entry
-none_at : (rows : List Held) (k : ℕ) → copies_at rows k ≤ copies_in rows
+pub none_at : (rows : List Held) (k : ℕ) → copies_at rows k ≤ copies_in rows
 none_at [] k = omega arith
 none_at (row ∷ rows) k =
     let rest = none_at rows k in
@@ -409,7 +409,7 @@ error_refused bag rows sorted error b same either =
 -- ---- rows of no copies
 
 -- if no pair gains copies, no row has any
-copies_none : (rows : List Held) → ((k : ℕ) → copies_at rows k ≡ 0) → copies_in rows ≡ 0
+pub copies_none : (rows : List Held) → ((k : ℕ) → copies_at rows k ≡ 0) → copies_in rows ≡ 0
 copies_none [] none = refl
 copies_none (row ∷ rows) none =
     let own : row.count ≡ 0 =

@@ -4,6 +4,7 @@ pub mod History
 pub mod Plan
 pub mod Refusals
 pub mod Region
+pub mod Removals
 pub mod Rows
 pub mod State
 pub use Rattle.s2ix_bag_pairs.specs.Change

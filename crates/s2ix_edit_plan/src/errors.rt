@@ -65,6 +65,35 @@ impl From<RevertError> for EditError {
     }
 }
 
+/// Why rows were not removed. If several refusals are due, the first of this list is returned. `OutOfMemory` may replace `NotHeld`, and
+/// neither of the others.
+#[derive(Clone, Copy, Debug, PartialEq, Eq, Error)]
+pub enum RemoveError {
+    /// As many changes can be undone as the limit allows.
+    #[error("the journal is full")]
+    JournalFull,
+    /// The row at this place, counted from 0, is the first that takes more copies of its pair than the rows before it leave.
+    #[error("row {0} takes more copies than are left")]
+    NotHeld(usize),
+    /// No row has copies.
+    #[error("nothing would change")]
+    NoChange,
+    /// Memory was refused.
+    #[error("out of memory")]
+    OutOfMemory,
+}
+
+impl From<OutOfMemory> for RemoveError {
+    ghost use Rattle.std.specs.Prelude.{◌≡◌};
+    ghost use Rattle.s2ix_edit_plan.specs.declared.errors.RemoveError.TheVariants.{OutOfMemory};
+
+    ghost from_gives = { λ _ error. error ≡ OutOfMemory };
+
+    fn from(_: OutOfMemory) -> Self {
+        RemoveError::OutOfMemory
+    }
+}
+
 /// Why an undo was refused. It is here and not beside the store, so that each refusal of a step can be named without one.
 #[derive(Clone, Copy, Debug, PartialEq, Eq, Error)]
 pub enum UndoError {

@@ -1,5 +1,5 @@
 //! Laws: functions that do nothing; their contracts state facts about definitions.
-ghost use Rattle.std.specs.Prelude.{◌≡◌, ◌≢◌, ◌↔◌, IsTrue, ℕ, ◌+◌, ◌-◌, pos, ◌-ℤ◌, true, false, Some, [], List, Contains};
+ghost use Rattle.std.specs.Prelude.{◌≡◌, ◌≢◌, ◌↔◌, IsTrue, ℕ, ◌+◌, ◌-◌, ◌≤◌, pos, ◌-ℤ◌, true, false, Some, None, [], List, Contains};
 ghost use Rattle.std.specs.List.Sorted.{IsPermutation};
 ghost use Rattle.s2id_core.specs.declared.cell_id.CellId.{CellId};
 ghost use Rattle.s2id_union.specs.Region.{HaveSameRegion, IsNormal};
@@ -8,7 +8,7 @@ ghost use Rattle.s2ix_bag_pairs.specs.declared.pair.Entry.{Entry};
 ghost use Rattle.s2ix_bag_pairs.specs.declared.pair.Held.{Held};
 ghost use Rattle.s2ix_bag_pairs.specs.declared.pair.Pair.{Pair};
 ghost use Rattle.s2ix_bag_pairs.specs.Change.{IsChangeList, counts_at};
-ghost use Rattle.s2ix_bag_pairs.specs.Collection.{Collection, IsCollection, count_in};
+ghost use Rattle.s2ix_bag_pairs.specs.Collection.{Collection, IsCollection, count_at, count_in};
 ghost use Rattle.s2ix_bag_pairs.specs.Pair.{rank_of};
 ghost use Rattle.s2ix_bag_pairs.specs.TakenBack.{gain_of};
 ghost use Rattle.s2ix_edit_plan.specs.declared.edit.Edit.{Edit};
@@ -18,14 +18,16 @@ ghost use Rattle.s2ix_edit_plan.specs.Grow.{IsGrown};
 ghost use Rattle.s2ix_edit_plan.specs.History.{History, at_cursor};
 ghost use Rattle.s2ix_edit_plan.specs.Refusals.{goes_below_zero, holds_none, reverts};
 ghost use Rattle.s2ix_edit_plan.specs.Region.{cells_of, region_of};
+ghost use Rattle.s2ix_edit_plan.specs.Removals.{first_not_held, without_rows};
 ghost use Rattle.s2ix_edit_plan.specs.Rows.{copies_at, with_rows};
 ghost use Rattle.s2ix_edit_plan.specs.State.{State, history_of};
 ghost use Rattle.s2ix_edit_plan.specs.declared.errors.EditError.{EditError};
 ghost use Rattle.s2ix_edit_plan.specs.declared.errors.RedoError.{RedoError};
+ghost use Rattle.s2ix_edit_plan.specs.declared.errors.RemoveError.{RemoveError};
 ghost use Rattle.s2ix_edit_plan.specs.declared.errors.UndoError.{UndoError};
 
 use crate::edit::Edit;
-use crate::errors::{EditError, RedoError, UndoError};
+use crate::errors::{EditError, RedoError, RemoveError, UndoError};
 
 /// Two edits are equal exactly if they are the same.
 pub fn equal_edits_are_one()
@@ -101,6 +103,20 @@ pub fn rows_add_their_copies()
         → IsCollection hs
         → IsPermutation rows others
         → with_rows others hs ≡ with_rows rows hs }
+{}
+
+/// Rows that are removed take from each count the copies that they have for its pair. They are held exactly if no pair has fewer copies than
+/// they take; so the order of rows only decides which of them is told. Rows that are added and then removed change nothing.
+pub fn removed_rows_take_their_copies()
+    ensures counts { (hs : Collection) (rows : List Held) (pair : Pair)
+        → IsCollection hs
+        → count_in (without_rows rows hs) pair ≡ count_in hs pair - copies_at rows (rank_of pair) }
+    ensures held { (hs : Collection) (rows : List Held)
+        → IsCollection hs
+        → (first_not_held rows hs ≡ None) ↔ ((rank : ℕ) → copies_at rows rank ≤ count_at hs rank) }
+    ensures added { (hs : Collection) (rows : List Held)
+        → IsCollection hs
+        → without_rows rows (with_rows rows hs) ≡ hs }
 {}
 
 /// `DropLabel` takes all copies of the label's pairs away, and leaves every other count.
@@ -184,6 +200,7 @@ pub fn normalise_leaves_a_copy_each()
 /// Two errors are equal exactly if they are the same.
 pub fn equal_errors_are_one()
     ensures edit { (a b : EditError) → IsTrue (⟦<EditError as PartialEq>⟧.eq a b) ↔ (a ≡ b) }
+    ensures remove { (a b : RemoveError) → IsTrue (⟦<RemoveError as PartialEq>⟧.eq a b) ↔ (a ≡ b) }
     ensures undo { (a b : UndoError) → IsTrue (⟦<UndoError as PartialEq>⟧.eq a b) ↔ (a ≡ b) }
     ensures redo { (a b : RedoError) → IsTrue (⟦<RedoError as PartialEq>⟧.eq a b) ↔ (a ≡ b) }
 {}
@@ -191,6 +208,7 @@ pub fn equal_errors_are_one()
 /// An error's clone is that error.
 pub fn cloned_errors_are_the_same()
     ensures edit { (error copy : EditError) → ⟦<EditError as Clone>⟧.is_clone error copy ↔ (copy ≡ error) }
+    ensures remove { (error copy : RemoveError) → ⟦<RemoveError as Clone>⟧.is_clone error copy ↔ (copy ≡ error) }
     ensures undo { (error copy : UndoError) → ⟦<UndoError as Clone>⟧.is_clone error copy ↔ (copy ≡ error) }
     ensures redo { (error copy : RedoError) → ⟦<RedoError as Clone>⟧.is_clone error copy ↔ (copy ≡ error) }
 {}

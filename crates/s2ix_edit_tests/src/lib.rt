@@ -8,6 +8,8 @@
 #[cfg(test)]
 mod edit_tests;
 #[cfg(test)]
+mod history_tests;
+#[cfg(test)]
 mod refused_growths;
 #[cfg(test)]
 mod refused_large_tests;

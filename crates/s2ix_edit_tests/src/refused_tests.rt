@@ -1,8 +1,10 @@
 //! Stores, step by step.
 use s2id_samples::{SET_UP, TOLD, answer, tell};
-use s2ix_bag::{Bag, Label, Limits, Pair};
-use s2ix_bag_samples::{WIDEST, are_changes, bag_of, holds_pairs, label_of, pair_of};
-use s2ix_edit::{Edit, EditError, Store};
+use s2ix_bag::{Bag, Change, Held, Label, Limits, Pair};
+use s2ix_bag_samples::{
+    WIDEST, are_changes, bag_of, change_of, changes_of, holds_pairs, label_of, list_of, pair_of,
+};
+use s2ix_edit::{Edit, EditError, RemoveError, Store};
 use s2ix_table::RangeTable;
 use std::alloc::Global;
 use std::process::Abort;
@@ -73,14 +75,12 @@ static GROWN_ONCE: Seen = Seen {
     ranges: 6,
 };
 
+const SECOND_BACK: &str = "3:4:1:0 5:4:1:0 9:4:1:0 b:4:1:0";
+
 // Not grown, by a change that takes the growth back.
 static REVERTED: Seen = Seen {
     pairs: "1:4:1",
-    done: &[
-        FIRST_ENTRIES,
-        SECOND_ENTRIES,
-        "3:4:1:0 5:4:1:0 9:4:1:0 b:4:1:0",
-    ],
+    done: &[FIRST_ENTRIES, SECOND_ENTRIES, SECOND_BACK],
     undone: &[],
     faces: 4,
     ranges: 2,
@@ -95,12 +95,48 @@ static FORGOTTEN: Seen = Seen {
     ranges: 6,
 };
 
+// The grown store with its last change alone.
+static OLDER_FORGOTTEN: Seen = Seen {
+    pairs: ALL_FACES,
+    done: &[LAST_ENTRIES],
+    undone: &[],
+    faces: 1,
+    ranges: 6,
+};
+
 // A store that starts with all faces.
 static STARTED: Seen = Seen {
     pairs: ALL_FACES,
     done: &[],
     undone: &[],
     faces: 0,
+    ranges: 6,
+};
+
+// The grown store as it comes back from its bag and its changes.
+static LED: Seen = Seen {
+    pairs: ALL_FACES,
+    done: &[FIRST_ENTRIES, SECOND_ENTRIES, LAST_ENTRIES],
+    undone: &[],
+    faces: 0,
+    ranges: 6,
+};
+
+// The store before it reached the last face, its two changes joined.
+static JOINED: Seen = Seen {
+    pairs: BACK_PAIRS,
+    done: &["1:4:0:1 3:4:0:1 5:4:0:1 9:4:0:1 b:4:0:1"],
+    undone: &[LAST_ENTRIES],
+    faces: 1,
+    ranges: 6,
+};
+
+// The store before it grew, and then what it had undone done by changes that are given.
+static GIVEN: Seen = Seen {
+    pairs: ALL_FACES,
+    done: &[FIRST_ENTRIES, SECOND_ENTRIES, LAST_ENTRIES],
+    undone: &[],
+    faces: 5,
     ranges: 6,
 };
 
@@ -238,6 +274,14 @@ fn refused_regions_after_a_forget(rt: HostRuntime) {
     check_region(&rt, &store, &FORGOTTEN);
 }
 
+// Nor do older changes take any that are forgotten.
+#[test]
+fn refused_regions_after_older_are_forgotten(rt: HostRuntime) {
+    let mut store = grown(&rt, rt.alloc());
+    store.forget_older(1);
+    check_region(&rt, &store, &OLDER_FORGOTTEN);
+}
+
 fn check_new(rt: &(impl Abort + Print), alloc: Global) {
     let store = answer!(rt, Store::new(alloc, Limits::default()));
     check_seen(rt, &store, &EMPTY);
@@ -267,4 +311,126 @@ fn refused_stores(rt: HostRuntime) {
     check_seen(&rt, &store, &STARTED);
     let copy = answer!(&rt, store.copied());
     check_seen(&rt, &copy, &STARTED);
+}
+
+fn given(rt: &impl Abort, alloc: Global, texts: &[&str]) -> Vec<Change> {
+    changes_of(alloc, texts).expect(rt, SET_UP)
+}
+
+// The store of a bag and its changes; if it gave up and let them go, of equal ones.
+fn led(
+    rt: &(impl Abort + Print),
+    alloc: Global,
+    changes: Vec<Change>,
+    equal: Vec<Change>,
+) -> Store {
+    match Store::with_history(alloc, all_faces(rt, alloc), changes) {
+        Ok(store) => store,
+        Err(error) => {
+            tell(rt, &error).expect(rt, TOLD);
+            let bag = all_faces(rt, alloc);
+            Store::with_history(alloc, bag, equal).expect(rt, "the call made again")
+        }
+    }
+}
+
+#[test]
+fn refused_histories(rt: HostRuntime) {
+    let changes = given(&rt, rt.alloc(), LED.done);
+    let equal = given(&rt, rt.alloc(), LED.done);
+    let mut store = led(&rt, rt.alloc(), changes, equal);
+    check_seen(&rt, &store, &LED);
+    check_undo(&rt, &mut store, &LED, &BACK);
+}
+
+#[test]
+fn refused_joins(rt: HostRuntime) {
+    let mut store = grown(&rt, rt.alloc());
+    store.undo().expect(&rt, SET_UP);
+    let number = answer!(&rt, store.join(2), check_seen(&rt, &store, &BACK));
+    assert!(rt; number == 5);
+    check_seen(&rt, &store, &JOINED);
+}
+
+// How many pairs the changes change; if the store gave up and let them go, equal ones.
+fn done_again(
+    rt: &(impl Abort + Print),
+    store: &mut Store,
+    changes: Vec<Change>,
+    equal: Vec<Change>,
+) -> usize {
+    match store.apply(changes) {
+        Ok(number) => number,
+        Err(error) => {
+            tell(rt, &error).expect(rt, TOLD);
+            check_seen(rt, store, &FIRST);
+            store.apply(equal).expect(rt, "the call made again")
+        }
+    }
+}
+
+#[test]
+fn refused_given_changes(rt: HostRuntime) {
+    let mut store = grown(&rt, rt.alloc());
+    store.undo().expect(&rt, SET_UP);
+    store.undo().expect(&rt, SET_UP);
+    let changes = given(&rt, rt.alloc(), &[SECOND_ENTRIES, LAST_ENTRIES]);
+    let equal = given(&rt, rt.alloc(), &[SECOND_ENTRIES, LAST_ENTRIES]);
+    let number = done_again(&rt, &mut store, changes, equal);
+    check_after(&rt, &store, number, &GIVEN);
+}
+
+// How many pairs a change changes; if the store gave up and let it go, an equal one.
+fn recorded(rt: &(impl Abort + Print), store: &mut Store, change: Change, equal: Change) -> usize {
+    match store.record(change) {
+        Ok(number) => number,
+        Err(error) => {
+            tell(rt, &error).expect(rt, TOLD);
+            check_seen(rt, store, &BACK);
+            store.record(equal).expect(rt, "the call made again")
+        }
+    }
+}
+
+#[test]
+fn refused_given_change(rt: HostRuntime) {
+    let mut store = grown(&rt, rt.alloc());
+    store.undo().expect(&rt, SET_UP);
+    let change = change_of(rt.alloc(), SECOND_BACK).expect(&rt, SET_UP);
+    let equal = change_of(rt.alloc(), SECOND_BACK).expect(&rt, SET_UP);
+    let number = recorded(&rt, &mut store, change, equal);
+    check_after(&rt, &store, number, &REVERTED);
+}
+
+#[test]
+fn refused_removals(rt: HostRuntime) {
+    let mut store = grown(&rt, rt.alloc());
+    store.undo().expect(&rt, SET_UP);
+    let rows = list_of(rt.alloc(), "b:4:1 3:4:1 9:4:1 5:4:1").expect(&rt, SET_UP);
+    let number = answer!(&rt, store.remove_all(&rows), check_seen(&rt, &store, &BACK));
+    check_after(&rt, &store, number, &REVERTED);
+}
+
+// The place of the row that is not held, or `None` if memory was wanted.
+fn place_not_held(rt: &(impl Abort + Print), store: &mut Store, rows: &[Held]) -> Option<usize> {
+    match store.remove_all(rows) {
+        Err(RemoveError::NotHeld(place)) => Some(place),
+        Err(error) => {
+            tell(rt, &error).expect(rt, TOLD);
+            None
+        }
+        Ok(_) => None,
+    }
+}
+
+// Memory is wanted to find which row is not held.
+#[test]
+fn refused_rows_not_held(rt: HostRuntime) {
+    let mut store = grown(&rt, rt.alloc());
+    store.undo().expect(&rt, SET_UP);
+    let rows = list_of(rt.alloc(), "b:4:1 3:4:1 3:4:1 9:4:1 7:4:1").expect(&rt, SET_UP);
+    let first = place_not_held(&rt, &mut store, &rows);
+    check_seen(&rt, &store, &BACK);
+    assert!(rt; first == Some(2) || place_not_held(&rt, &mut store, &rows) == Some(2));
+    check_seen(&rt, &store, &BACK);
 }

@@ -1,9 +1,12 @@
-//! Rows that are added at once, a change that is taken back, and regions.
+//! Rows that are added or removed at once, a change that is taken back, and regions.
 use s2id_samples::are_cells;
 use s2ix_bag::Limits;
-use s2ix_bag_samples::{WIDEST, are_changes, bag_of, holds_pairs, label_of, list_of, pair_of};
-use s2ix_edit::{Edit, Store, UndoError};
+use s2ix_bag_samples::{
+    LimitRow, WIDEST, are_changes, bag_of, holds_pairs, label_of, list_of, pair_of,
+};
+use s2ix_edit::{Edit, RemoveError, Store, UndoError};
 use s2ix_table::RangeTable;
+use std::alloc::Global;
 
 #[test]
 fn rows_are_added_as_one_change(rt: HostRuntime) {
@@ -13,6 +16,57 @@ fn rows_are_added_as_one_change(rt: HostRuntime) {
     assert!(rt; holds_pairs(store.bag(), "04:9:2 3:9:5"));
     assert!(rt; are_changes(store.done(), &["04:9:0:2 3:9:0:5"]));
     assert!(rt; store.undo() == Ok(2) && store.bag().is_empty());
+}
+
+// A store of three pairs.
+fn three(alloc: Global, limits: LimitRow) -> Option<Store> {
+    Store::from_bag(alloc, bag_of(alloc, limits, "04:9:2 3:9:5 5:9:1")?).ok()
+}
+
+#[test]
+fn rows_are_removed_as_one_change(rt: HostRuntime) {
+    let mut store = three(rt.alloc(), WIDEST).expect(&rt, "a store");
+    let rows = list_of(rt.alloc(), "3:9:1 04:9:2 3:9:3 04:7:0").expect(&rt, "rows");
+    assert!(rt; store.remove_all(&rows) == Ok(2) && store.faces_rebuilt() == 2);
+    assert!(rt; holds_pairs(store.bag(), "3:9:1 5:9:1"));
+    assert!(rt; are_changes(store.done(), &["04:9:2:0 3:9:5:1"]));
+    assert!(rt; store.undo() == Ok(2) && holds_pairs(store.bag(), "04:9:2 3:9:5 5:9:1"));
+}
+
+// Why a store of three pairs doesn't remove rows; if it doesn't, it must stay as it is.
+fn not_removed(alloc: Global, limits: LimitRow, rows: &str) -> Option<RemoveError> {
+    let mut store = three(alloc, limits)?;
+    let error = store.remove_all(&list_of(alloc, rows)?).err()?;
+    if holds_pairs(store.bag(), "04:9:2 3:9:5 5:9:1") && store.done().is_empty() {
+        Some(error)
+    } else {
+        None
+    }
+}
+
+#[test]
+fn the_first_row_that_is_not_held_is_told(rt: HostRuntime) {
+    let place = |rows: &str| match not_removed(rt.alloc(), WIDEST, rows) {
+        Some(RemoveError::NotHeld(place)) => Some(place),
+        _ => None,
+    };
+    assert!(rt; place("04:9:3") == Some(0) && place("04:7:1") == Some(0));
+    assert!(rt; place("3:9:3 04:9:1 3:9:2 04:9:2 5:9:9") == Some(3));
+    assert!(rt; place("5:9:1 04:9:1 3:9:2 04:7:0 3:9:4") == Some(4));
+    assert!(rt; place("3:9:4294967295 3:9:4294967295") == Some(0));
+    assert!(rt; place("3:9:5 3:9:4294967295") == Some(1));
+}
+
+#[test]
+fn rows_without_copies_remove_nothing(rt: HostRuntime) {
+    assert!(rt; not_removed(rt.alloc(), WIDEST, "") == Some(RemoveError::NoChange));
+    assert!(rt; not_removed(rt.alloc(), WIDEST, "3:9:0 04:7:0") == Some(RemoveError::NoChange));
+    let mut store = three(rt.alloc(), (3, 5, 1)).expect(&rt, "a store");
+    let rows = list_of(rt.alloc(), "3:9:1").expect(&rt, "rows");
+    assert!(rt; store.remove_all(&rows) == Ok(1) && holds_pairs(store.bag(), "04:9:2 3:9:4 5:9:1"));
+    assert!(rt; store.remove_all(&rows) == Err(RemoveError::JournalFull));
+    let none = list_of(rt.alloc(), "").expect(&rt, "rows");
+    assert!(rt; store.remove_all(&none) == Err(RemoveError::JournalFull));
 }
 
 #[test]

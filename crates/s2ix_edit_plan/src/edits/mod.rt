@@ -8,6 +8,7 @@ mod entries;
 mod grow;
 mod normalise;
 mod relabel;
+pub(crate) mod removals;
 mod remove;
 mod revert;
 pub(crate) mod rows;

@@ -32,7 +32,7 @@ pub fn plan_rows(alloc: Global, bag: &Bag, rows: &[Held]) -> Result<Change, Edit
         → has_count_above_every_limit (with_rows rows.now bag.now.held) ≡ true }
     ensures nothing { copies_in rows.now ≡ 0 → IsOk result }
 {
-    if adds_nothing(bag, rows) {
+    if have_no_copies(bag, rows) {
         return Ok(Change::from_vec(Vec::new(alloc)));
     }
     let sorted = by_pair(alloc, rows)?;
@@ -41,7 +41,7 @@ pub fn plan_rows(alloc: Global, bag: &Bag, rows: &[Held]) -> Result<Change, Edit
 }
 
 // Whether no row has copies, so that the bag stays as it is. It reads the bag's length, since a bag stays within its limits.
-fn adds_nothing(bag: &Bag, rows: &[Held]) -> bool
+pub(crate) fn have_no_copies(bag: &Bag, rows: &[Held]) -> bool
     ensures copies { result ≡ (copies_in rows.now == 0) }
     ensures within { IsBag bag.now }
 {

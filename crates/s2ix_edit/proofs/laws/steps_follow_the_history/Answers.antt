@@ -1,4 +1,6 @@
 use Rattle.s2ix_edit.proofs.Followed.{history_after_forget, history_after_redo, history_after_undo, history_edited}
+use Rattle.s2ix_edit.proofs.Joined.{history_after_join}
+use Rattle.s2ix_edit.proofs.Shortened.{history_after_forget_older}
 use Rattle.s2ix_edit.proofs.laws.steps_follow_the_history.Goals as goal
 
 pub returns : goal.returns
@@ -7,4 +9,6 @@ returns c = record {
   undo = history_after_undo;
   redo = history_after_redo;
   forget = history_after_forget;
+  forget_older = history_after_forget_older;
+  join = history_after_join;
 }

@@ -1,3 +1,4 @@
+use Rattle.s2ix_edit.proofs.Applied.{limits_after_apply}
 use Rattle.s2ix_edit.proofs.Redone.{redo_keeps_limits, undo_keeps_limits}
 use Rattle.s2ix_edit.proofs.laws.steps_keep_limits.Goals as goal
 
@@ -6,3 +7,6 @@ returns-clause-undo c = undo_keeps_limits
 
 pub returns-clause-redo : goal.returns-clause-redo
 returns-clause-redo c = redo_keeps_limits
+
+pub returns-clause-apply : goal.returns-clause-apply
+returns-clause-apply c = limits_after_apply

@@ -10,12 +10,12 @@ use Rattle.s2ix_edit_plan.proofs.Rows.{copies_above, error_refused, gains_plan, 
 use Rattle.s2ix_edit_plan.proofs.edits.rows.plan_rows.Goals.{In_err-entries, In_ok-entries}
 use Rattle.s2ix_edit_plan.proofs.edits.rows.plan_rows.Goals as goal
 
-pub returns-then-adds_nothing-clause-plan : goal.returns-then-adds_nothing-clause-plan
-returns-then-adds_nothing-clause-plan c =
+pub returns-then-have_no_copies-clause-plan : goal.returns-then-have_no_copies-clause-plan
+returns-then-have_no_copies-clause-plan c =
     let Planned : List Entry → Type 0 = λ es. PlansRows c.args.bag.now c.args.rows.now es in
     subst Planned (sym (c.from_vec.ensures ∙ c.new.ensures.items))
-    (nothing_plans c.args.bag.now c.args.rows.now c.adds_nothing.ensures.within
-    (eqb-true (copies_in c.args.rows.now) 0 (sym c.adds_nothing.ensures.copies ∙ c.if-adds_nothing.true)))
+    (nothing_plans c.args.bag.now c.args.rows.now c.have_no_copies.ensures.within
+    (eqb-true (copies_in c.args.rows.now) 0 (sym c.have_no_copies.ensures.copies ∙ c.if-have_no_copies.true)))
 
 error : (c : In_err-entries) → IsRowsError c.args.bag.now.held c.in_ok-sorted.sorted.items c.in_err-entries.field-0.0
 error c =
@@ -30,14 +30,14 @@ returns-in_err-entries-clause-copies c =
     let told = p.2 in
     let copies : c.in_err-entries.field-0.0 ≡ TooManyCopies = cc in
     copies_above c.args.rows.now c.in_ok-sorted.sorted.items c.args.bag.now.held c.in_err-entries.field-0.0
-    c.adds_nothing.ensures.within.rises c.in_ok-sorted.ensures.same
+    c.have_no_copies.ensures.within.rises c.in_ok-sorted.ensures.same
     (error (goal.at-returns-in_err-entries-clause-copies c).In_err-entries) copies
 
 pub returns-in_err-entries-clause-refused : goal.returns-in_err-entries-clause-refused
 returns-in_err-entries-clause-refused c =
     let p = err_from_is_err_and c.from_residual-in_err-entries.result c.from_residual-in_err-entries.ensures.1 in
     rw (p.1, p.2)
-    (error_refused c.args.bag.now c.args.rows.now c.in_ok-sorted.sorted.items c.in_err-entries.field-0.0 c.adds_nothing.ensures.within
+    (error_refused c.args.bag.now c.args.rows.now c.in_ok-sorted.sorted.items c.in_err-entries.field-0.0 c.have_no_copies.ensures.within
     c.in_ok-sorted.ensures.same (error (goal.at-returns-in_err-entries-clause-refused c).In_err-entries))
 
 plan : (c : In_ok-entries) → PlansRows c.args.bag.now c.args.rows.now c.in_ok-entries.entries.items
@@ -45,7 +45,7 @@ plan c =
     let Planned : List Entry → Type 0 = λ es. PlansRows c.args.bag.now c.args.rows.now es in
     let Sorted : List Held → Type 0 = λ rows. c.in_ok-entries.entries.items ≡ gains_of c.args.bag.now.held rows in
     subst Planned (sym (subst Sorted c.as_slice.ensures.value c.in_ok-entries.ensures.entries))
-    (gains_plan c.args.bag.now c.args.rows.now c.in_ok-sorted.sorted.items c.adds_nothing.ensures.within c.in_ok-sorted.ensures.order
+    (gains_plan c.args.bag.now c.args.rows.now c.in_ok-sorted.sorted.items c.have_no_copies.ensures.within c.in_ok-sorted.ensures.order
     c.in_ok-sorted.ensures.same)
 
 pub from_vec-requires-2 : goal.from_vec-requires-2

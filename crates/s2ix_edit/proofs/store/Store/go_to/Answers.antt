@@ -1,17 +1,15 @@
-use Rattle.std.proofs.Common.{◌≡◌, sym, ap, ◌∙◌, subst, arith}
+use Rattle.std.proofs.Common.{◌≡◌, subst, arith}
 use Rattle.std.proofs.lemmas.Grind.{common_steps}
-use Rattle.s2ix_bag_lists.specs.Apply.{apply_refusal}
 use Rattle.s2ix_edit_plan.specs.State.{State}
-use Rattle.s2ix_edit_plan.proofs.Refused.{some_entries}
 use Rattle.s2ix_edit.specs.Store.{IsStore}
 use Rattle.s2ix_edit.specs.Steps.{after_record}
 use Rattle.s2ix_edit.proofs.AtCursor.{stands_recorded}
-use Rattle.s2ix_edit.proofs.store.Store.record_change.Goals.{After-clear}
-use Rattle.s2ix_edit.proofs.store.Store.record_change.Goals as goal
+use Rattle.s2ix_edit.proofs.store.Store.go_to.Goals.{After-clear}
+use Rattle.s2ix_edit.proofs.store.Store.go_to.Goals as goal
 
 is_recorded : (c : After-clear) →
     record {
-      bag = c.in_ok-bag.bag;
+      bag = c.args.bag;
       done = c.push_reserved.new.self.items;
       undone = c.clear.new.self.items;
       faces_rebuilt = c.changed_face_count-faces.result;
@@ -24,9 +22,8 @@ stood c = let Stands : State → Type 0 = λ s. IsStore s in subst Stands c.self
 
 pub invariant_of-self-2 : goal.invariant_of-self-2
 invariant_of-self-2 c =
-    let d = (goal.at.invariant_of-self-2 c).After-clear in
-    let taken = ap (λ (s : State). apply_refusal s.bag c.args.change) (sym c.self.view_is) ∙ c.in_ok-bag.ensures.fits in (
+    let d = (goal.at.invariant_of-self-2 c).After-clear in (
       stands_recorded c.args.self.now _ c.args.change (is_recorded d) (stood d) c.requires.room c.entries-number.ensures.rises
-          (some_entries c.self.inside.bag c.args.change c.in_ok-bag.ensures.accepted) taken c.in_ok-bag.ensures.within,
+          c.requires.some c.requires.fits c.requires.within,
       c.in_ok-rebuild_for.ensures.table,
     )

@@ -1,0 +1,89 @@
+use Rattle.std.proofs.Common.{◌≡◌, ◌-◌, ◌++◌, List, All, None, length, sym, ap, ap₂, ◌∙◌, subst, arith}
+use Rattle.std.specs.Vec.{vec_len}
+use Rattle.std.proofs.lemmas.Bool.{eqb-false, eqb-true}
+use Rattle.s2ix_bag_pairs.specs.declared.pair.Entry.{Entry}
+use Rattle.s2ix_bag_pairs.specs.Change.{IsChangeList}
+use Rattle.s2ix_bag_pairs.specs.Limits.{changes_limit}
+use Rattle.s2ix_bag.specs.Replay.{replay_refusal, replayed}
+use Rattle.s2ix_edit_plan.specs.State.{State}
+use Rattle.s2ix_edit.specs.Given.{after_apply, given_refusal, record_refusal}
+use Rattle.s2ix_edit.specs.Steps.{faces_of}
+use Rattle.s2ix_edit.specs.Store.{IsStore}
+use Rattle.s2ix_edit.proofs.Applied.{apply_some, given_keeps, given_parts, none_sized, rebuilds}
+use Rattle.s2ix_edit.proofs.Histories.{taken_whole}
+use Rattle.s2ix_edit.proofs.store.Store.apply.Goals.{After-clear}
+use Rattle.s2ix_edit.proofs.store.Store.apply.Goals as goal
+
+pub returns-then-is_empty-clause-number : goal.returns-then-is_empty-clause-number
+returns-then-is_empty-clause-number c =
+    let vec_none = eqb-true (vec_len c.args.changes) 0 (sym c.is_empty.ensures ∙ c.if-is_empty.true) in
+    let none : length c.args.changes.items ≡ 0 = omega (arith, vec_none, c.args.changes.ok.0) in
+    none_sized c.args.self.now c.args.changes.items none
+
+pub rebuild_for-requires : goal.rebuild_for-requires
+rebuild_for-requires c =
+    let Rise : List (List Entry) → Type 0 = λ ess. All IsChangeList ess in
+    let Taken : List (List Entry) → Type 0 = λ ess. replay_refusal c.self.inside.bag ess ≡ None in
+    let replays = c.in_ok-bag.ensures in
+    rebuilds _ c.args.changes.items c.in_ok-bag.bag c.in_ok-whole.whole _ c.self.invariant.0
+    (subst Rise c.as_slice.ensures.value c.in_ok-test_recordable.ensures.rise)
+    (subst Taken c.as_slice-2.ensures.value replays.accepted)
+    (replays.bag ∙ ap (replayed c.self.inside.bag) c.as_slice-2.ensures.value)
+    c.in_ok-whole.ensures c.self.invariant.1
+
+-- the store inside, before the changes and after them
+abbrev inside : After-clear → State
+inside c = record {
+  bag = c.self.inside.bag;
+  done = c.self.inside.done.items;
+  undone = c.self.inside.undone.items;
+  faces_rebuilt = c.self.inside.faces_rebuilt;
+}
+
+bag_is : (c : After-clear) → c.in_ok-bag.bag ≡ replayed c.self.inside.bag c.args.changes.items
+bag_is c = c.in_ok-bag.ensures.bag ∙ ap (replayed c.self.inside.bag) c.as_slice-2.ensures.value
+
+done_is : (c : After-clear) → c.append_within.new.to.items ≡ c.self.inside.done.items ++ c.args.changes.items
+done_is c = c.append_within.ensures ∙ ap (λ (ess : List (List Entry)). ess ++ c.args.changes.items) c.in_ok-make_room.ensures.stay
+
+some : (c : After-clear) → length c.args.changes.items ≡ 0 → ⊥
+some c =
+    λ none.
+    let vec_none : vec_len c.args.changes ≡ 0 = omega (arith, none, c.args.changes.ok.0) in
+    eqb-false (vec_len c.args.changes) 0 (sym c.is_empty.ensures ∙ c.if-is_empty.false) vec_none
+
+-- they are not refused
+accepted : (c : After-clear) → given_refusal (inside c) c.args.changes.items ≡ None
+accepted c =
+    let limit = c.changes.ensures ∙ ap changes_limit c.limits.ensures in
+    let room : c.changes.result - c.len.result ≡ changes_limit c.self.inside.bag.limits - length c.self.inside.done.items =
+    omega (arith, limit, c.len.ensures, c.self.inside.done.ok.0) in
+    let Taken : List (List Entry) → Type 0 = λ ess. replay_refusal c.self.inside.bag ess ≡ None in
+    taken_whole (record_refusal (changes_limit c.self.inside.bag.limits - length c.self.inside.done.items) c.args.changes.items)
+    (replay_refusal c.self.inside.bag c.args.changes.items)
+    (ap₂ record_refusal (sym room) (sym c.as_slice.ensures.value) ∙ c.in_ok-test_recordable.ensures.taken)
+    (subst Taken c.as_slice-2.ensures.value c.in_ok-bag.ensures.accepted)
+
+pub invariant_of-self-2 : goal.invariant_of-self-2
+invariant_of-self-2 c =
+    let d = (goal.at-invariant_of-self-2 c).After-clear in
+    let Stands : State → Type 0 = λ s. IsStore s in
+    let Rise : List (List Entry) → Type 0 = λ ess. All IsChangeList ess in
+    let parts =
+    given_parts (inside d) c.args.changes.items c.in_ok-bag.bag c.append_within.new.to.items c.clear.new.self.items
+    c.changed_face_count-self-inside.result (bag_is d) (done_is d) c.clear.ensures.items
+    (c.changed_face_count-self-inside.ensures ∙ ap faces_of c.in_ok-whole.ensures) in (
+      subst Stands (sym parts)
+          (given_keeps (inside d) c.args.changes.items c.self.invariant.0
+          (subst Rise c.as_slice.ensures.value c.in_ok-test_recordable.ensures.rise) (accepted d)),
+      c.in_ok-rebuild_for.ensures.table,
+    )
+
+pub returns-clause-state : goal.returns-clause-state
+returns-clause-state c =
+    let d = (goal.at-returns-clause-state c).After-clear in
+    given_parts (inside d) c.args.changes.items c.in_ok-bag.bag c.append_within.new.to.items c.clear.new.self.items
+    c.changed_face_count-self-inside.result (bag_is d) (done_is d) c.clear.ensures.items
+    (c.changed_face_count-self-inside.ensures ∙ ap faces_of c.in_ok-whole.ensures)
+    ∙ apply_some (inside d) c.args.changes.items (some d)
+    ∙ ap (λ (s : State). after_apply s c.args.changes.items) c.self.view_is

@@ -1,0 +1,84 @@
+use Rattle.std.proofs.Common.{◌≡◌, ◌-◌, ◌<◌, length, sym, ap, ◌∙◌, subst, arith}
+use Rattle.s2ix_edit_plan.specs.State.{State, history_of}
+use Rattle.s2ix_edit.specs.Shortened.{with_joined}
+use Rattle.s2ix_edit.specs.Steps.{after_join, joined_last}
+use Rattle.s2ix_edit.specs.Store.{IsStore}
+use Rattle.s2ix_edit.proofs.Joined.{history_after_join, join_keeps, joins_last, last_has_place, last_led, replaces_last}
+use Rattle.s2ix_edit.proofs.store.Store.join.Goals.{After-replace_from}
+use Rattle.s2ix_edit.proofs.store.Store.join.Goals as goal
+
+pub joined_change-requires : goal.joined_change-requires
+joined_change-requires c =
+    let many : c.len-number.result ≡ length c.self.inside.done.items = omega (arith, c.len-number.ensures, c.self.inside.done.ok.0) in
+    record { led = last_led _ c.deref.result.now c.len-number.result c.args.last c.self.invariant.0 c.deref.ensures.value many }
+
+pub replace_from-requires : goal.replace_from-requires
+replace_from-requires c =
+    let inside : State =
+    record {
+      bag = c.self.inside.bag;
+      done = c.self.inside.done.items;
+      undone = c.self.inside.undone.items;
+      faces_rebuilt = c.self.inside.faces_rebuilt;
+    } in
+    let many : c.len-number.result ≡ length c.self.inside.done.items = omega (arith, c.len-number.ensures, c.self.inside.done.ok.0) in
+    let joins =
+    joins_last inside c.deref.result.now c.len-number.result c.args.last c.in_ok-change.change c.deref.ensures.value many
+    c.in_ok-change.ensures in
+    record {
+      some = λ some.
+          let place : c.len-number.result - c.args.last < length c.self.inside.done.items =
+          last_has_place inside c.len-number.result c.args.last c.in_ok-change.change c.self.invariant.0 many joins some in
+          omega (arith, place, c.self.inside.done.ok.0);
+    }
+
+-- the store inside, before it and after it
+abbrev inside : After-replace_from → State
+inside c = record {
+  bag = c.self.inside.bag;
+  done = c.self.inside.done.items;
+  undone = c.self.inside.undone.items;
+  faces_rebuilt = c.self.inside.faces_rebuilt;
+}
+
+many : (c : After-replace_from) → c.len-number.result ≡ length c.self.inside.done.items
+many c = omega (arith, c.len-number.ensures, c.self.inside.done.ok.0)
+
+joins : (c : After-replace_from) → c.in_ok-change.change ≡ joined_last (inside c) c.args.last
+joins c =
+    joins_last (inside c) c.deref.result.now c.len-number.result c.args.last c.in_ok-change.change c.deref.ensures.value (many c)
+    c.in_ok-change.ensures
+
+after : (c : After-replace_from) → ◌≡◌ {A = State}
+    (record {
+      bag = c.self.inside.bag;
+      done = c.replace_from.new.changes.items;
+      undone = c.self.inside.undone.items;
+      faces_rebuilt = c.self.inside.faces_rebuilt;
+    })
+    (after_join (inside c) c.args.last)
+after c =
+    replaces_last (inside c) c.len-number.result c.args.last c.in_ok-change.change c.replace_from.new.changes.items (many c) (joins c)
+    c.replace_from.ensures
+
+pub invariant_of-self : goal.invariant_of-self
+invariant_of-self c =
+    let d = (goal.at-invariant_of-self c).After-replace_from in
+    let Stands : State → Type 0 = λ s. IsStore s in
+    (subst Stands (sym (after d)) (join_keeps (inside d) c.args.last c.self.invariant.0), c.self.invariant.1)
+
+pub returns-clause-state : goal.returns-clause-state
+returns-clause-state c =
+    after (goal.at-returns-clause-state c).After-replace_from ∙ ap (λ (s : State). after_join s c.args.last) c.self.view_is
+
+pub returns-clause-history : goal.returns-clause-history
+returns-clause-history c =
+    let d = (goal.at-returns-clause-history c).After-replace_from in
+    ap history_of (after d)
+    ∙ history_after_join (inside d) c.args.last c.self.invariant.0
+    ∙ ap (λ (s : State). with_joined c.args.last (history_of s)) c.self.view_is
+
+pub returns-clause-number : goal.returns-clause-number
+returns-clause-number c =
+    let d = (goal.at-returns-clause-number c).After-replace_from in
+    ap length (c.entries-pairs.ensures.list ∙ joins d ∙ ap (λ (s : State). joined_last s c.args.last) c.self.view_is)
