@@ -4,7 +4,8 @@ ghost use Rattle.s2ix_text.specs.Adapters.{writer_faults};
 
 use s2ix_bag::Limits;
 use s2ix_cli::{
-    Command, RunOptions, check_text, first_fault, load_text, replay_texts, rewind_texts, turns,
+    Command, RunOptions, Start, check_text, diff_texts, first_fault, load_text, replay_texts,
+    resume_texts, rewind_texts, turns,
 };
 use s2ix_edit::Store;
 use s2ix_text::{FromRead, RunFault, Sink, ToWrite, read_whole};
@@ -17,27 +18,34 @@ const LARGEST_KEPT: usize = 31 << 20;
 // Carries out a command, and says whether all was accepted. What was written before a fault goes out too.
 pub(crate) fn run_command(rt: &HostRuntime, command: &Command) -> Result<bool, RunFault> {
     match command {
-        Command::Run { load, limits, stop } => run(rt, load.as_ref(), *limits, *stop),
+        Command::Run {
+            start,
+            limits,
+            stop,
+        } => run(rt, start, *limits, *stop),
         Command::Check { file } => check(rt, file.as_str()),
         Command::Replay { dump, journal } => replay(rt, dump.as_str(), journal.as_str()),
         Command::Rewind { dump, journal } => rewind(rt, dump.as_str(), journal.as_str()),
+        Command::Diff { first, second } => diff(rt, first.as_str(), second.as_str()),
     }
 }
 
-// Runs the script on standard input over an empty store, or over the dump in a file.
-fn run(
-    rt: &HostRuntime,
-    load: Option<&String>,
-    limits: Limits,
-    stop: bool,
-) -> Result<bool, RunFault> {
-    let loaded = match load {
-        Some(file) => load_file(rt, file.as_str(), limits)?,
-        None => Some(Store::new(rt.alloc(), limits)?),
-    };
-    match loaded {
+// Runs the script on standard input over an empty store, the dump in a file, or a dump and the journal that led to it.
+fn run(rt: &HostRuntime, start: &Start, limits: Limits, stop: bool) -> Result<bool, RunFault> {
+    match begun(rt, start, limits)? {
         Some(store) => run_over(rt, store, stop),
         None => Ok(false),
+    }
+}
+
+// The store that a run begins with, or `None` once a refusal is printed.
+fn begun(rt: &HostRuntime, start: &Start, limits: Limits) -> Result<Option<Store>, RunFault> {
+    match start {
+        Start::Empty => Ok(Some(Store::new(rt.alloc(), limits)?)),
+        Start::Dump { dump } => load_file(rt, dump.as_str(), limits),
+        Start::History { dump, journal } => {
+            resume_files(rt, dump.as_str(), journal.as_str(), limits)
+        }
     }
 }
 
@@ -47,6 +55,26 @@ fn load_file(rt: &HostRuntime, file: &str, limits: Limits) -> Result<Option<Stor
     let text = file_text(rt, file)?;
     let mut sink = output(rt)?;
     load_text(rt.alloc(), text.as_slice(), limits, &mut sink)
+}
+
+// The store that goes on from the dump in a file, with the journal's changes done, or `None` once a refusal is printed.
+fn resume_files(
+    rt: &HostRuntime,
+    dump: &str,
+    journal: &str,
+    limits: Limits,
+) -> Result<Option<Store>, RunFault> {
+    keep_pages(rt);
+    let dump = file_text(rt, dump)?;
+    let journal = file_text(rt, journal)?;
+    let mut sink = output(rt)?;
+    resume_texts(
+        rt.alloc(),
+        dump.as_slice(),
+        journal.as_slice(),
+        limits,
+        &mut sink,
+    )
 }
 
 // Takes a large block and gives it back. From then on glibc's allocator keeps freed blocks up to that size. So the tables reuse the memory
@@ -91,6 +119,14 @@ fn rewind(rt: &HostRuntime, dump: &str, journal: &str) -> Result<bool, RunFault>
     let journal = file_text(rt, journal)?;
     let mut sink = output(rt)?;
     rewind_texts(rt.alloc(), dump.as_slice(), journal.as_slice(), &mut sink)
+}
+
+// Prints the journal of the change between two dumps.
+fn diff(rt: &HostRuntime, first: &str, second: &str) -> Result<bool, RunFault> {
+    let first = file_text(rt, first)?;
+    let second = file_text(rt, second)?;
+    let mut sink = output(rt)?;
+    diff_texts(rt.alloc(), first.as_slice(), second.as_slice(), &mut sink)
 }
 
 // All of a file. One that can't be opened is a fault of reading.

@@ -4,7 +4,7 @@
 //! What it writes follows from the store and from what it reads. A refused line prints `no` with its reason and changes nothing. After a
 //! fault the store keeps the effects of the lines already carried out. A [`RunEnd`] says how many lines there were and how many were
 //! refused; [`RunOptions`] say whether the first refused line ends the run, and how many pieces it may read. [`command_of`] reads the
-//! program's words; `check_text`, `load_text`, `replay_texts` and `rewind_texts` work on whole texts.
+//! program's words; `check_text`, `load_text`, `resume_texts`, `replay_texts`, `rewind_texts` and `diff_texts` work on whole texts.
 //!
 //! ```
 //! let Some(mut store) = load_text(alloc, dump_bytes, limits, &mut sink)? else { return Ok(()) };
@@ -22,7 +22,7 @@
 //! pieces.
 //!
 //! The crates below this one: `s2ix_cli_words` reads the program's words and cuts a line into fields; `s2ix_cli_script` says what a line
-//! asks for; `s2ix_cli_answers` writes what queries find; `s2ix_cli_files` checks, loads, replays and rewinds whole texts. Here is what
+//! asks for; `s2ix_cli_answers` writes what queries find; `s2ix_cli_files` works on whole texts. Here is what
 //! carries lines out: one definition says what a line comes to, as a step, and a run is such steps, one after the other.
 #![tactic(auto)]
 
@@ -47,8 +47,8 @@ pub use s2ix_cli_answers::{
     write_square,
 };
 pub use s2ix_cli_files::{
-    Refusal, TextsError, check_text, dump_fault_name, journal_fault_name, load_text, replay_texts,
-    rewind_texts,
+    Refusal, TextsError, check_text, diff_texts, dump_fault_name, journal_fault_name, load_text,
+    replay_texts, resume_texts, rewind_texts,
 };
 pub use s2ix_cli_script::{
     Instruction, LONGEST_LINE, LineError, LineFault, add_union_named, cell_named, drop_named,
@@ -56,9 +56,9 @@ pub use s2ix_cli_script::{
     pair_named, redo_error_name, relabel_named, revert_named, undo_error_name, union_named,
 };
 pub use s2ix_cli_words::{
-    Command, Ending, Fields, LimitHelp, WordsFault, change_number_spelled, command_of,
-    copies_spelled, first_fault, label_spelled, level_spelled, limit_error, not_utf8, program,
-    range_text, status, turns,
+    Command, Ending, Fields, LimitHelp, Start, WordsFault, change_number_spelled, command_of,
+    copies_spelled, first_fault, label_spelled, level_spelled, limit_error, lone_journal_error,
+    not_utf8, program, range_text, status, turns,
 };
 pub use s2ix_text_parts::{RunFault, read_whole};
 pub use script::run;

@@ -1,5 +1,5 @@
 -- What a dump and a journal come to.
-use Rattle.std.proofs.Common.{◌≡◌, ℕ, Option, Some, List, Result, Ok, Err, refl, sym, ap, subst, inl, inr}
+use Rattle.std.proofs.Common.{◌≡◌, ℕ, Option, Some, List, Result, Ok, Err, OnOk, refl, sym, ap, subst, inl, inr}
 use Rattle.std.specs.Option.{option_map}
 use Rattle.s2ix_bag_pairs.specs.Collection.{LimitedCollection}
 use Rattle.s2ix_bag_pairs.specs.declared.limits.Limits.{Limits}
@@ -12,6 +12,11 @@ use Rattle.s2ix_cli_files.specs.declared.refusal.TextsError.{TextsError}
 use Rattle.s2ix_cli_files.specs.declared.refusal.TextsError.TheVariants as texts
 use Rattle.s2ix_cli_files.specs.Reads.{DumpReads, JournalReads, Leading, Then, TextsLead}
 use Rattle.s2ix_cli_files.specs.Refusals.{IsRefusedBy, error_of_replay}
+
+-- what follows from what an answer brings
+pub if_ok : {A E : Type 0} (result : Result A E) (P Q : Type 0) → (P → Q) → OnOk result P → OnOk result Q
+if_ok (Ok a) P Q follows holds = follows holds
+if_ok (Err e) P Q follows holds = tt
 
 -- an error of the first decides
 pub refused_first : {A B : Type 0} (First : Result A Refusal → Type 0) (Next : A → Result B Refusal → Type 0) (error : TextsError)

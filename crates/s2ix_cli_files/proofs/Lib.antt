@@ -1,5 +1,8 @@
-pub mod History
+pub mod Between
+pub mod Diffs
+pub mod Gone
 pub mod Joined
+pub mod Led
 pub mod One
 pub mod Outcomes
 pub mod Recorded

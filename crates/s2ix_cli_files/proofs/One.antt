@@ -5,6 +5,8 @@ use Rattle.s2ix_bag_pairs.specs.declared.limits.Limits.{Limits}
 use Rattle.s2ix_bag_pairs.specs.declared.pair.Entry.{Entry}
 use Rattle.s2ix_bag_pairs.specs.Collection.{Collection, LimitedCollection, IsBag}
 use Rattle.s2ix_text.specs.DumpFaults.{dump_fault}
+use Rattle.s2ix_text.specs.declared.dump_error.DumpFault.{DumpFault}
+use Rattle.s2ix_bag_pairs.specs.Change.{change_between}
 use Rattle.s2ix_text.proofs.WholeDumps.{dumps_have_no_fault}
 use Rattle.s2ix_text.specs.JournalFaults.{journal_fault}
 use Rattle.s2ix_text.proofs.Answered.{journals_have_no_fault}
@@ -19,7 +21,7 @@ use Rattle.s2ix_cli_files.specs.declared.refusal.Refusal.TheVariants.{Mismatch, 
 use Rattle.s2ix_cli_files.specs.declared.refusal.TextsError.TheVariants.{Refused}
 use Rattle.s2ix_cli_files.specs.Answers.{IsAnswerTo, answer_of}
 use Rattle.s2ix_cli_files.specs.Laws.{HasOne}
-use Rattle.s2ix_cli_files.specs.Reads.{DumpReads, IsDumpOf, IsJournalOf, JournalReads, EndsIn, ReadsAs, ReplayLeads, RewindLeads, TextsReplay, TextsRewind, Then, dump_refusal, journal_refusal, Leading, TextsLead}
+use Rattle.s2ix_cli_files.specs.Reads.{DumpReads, IsDumpOf, IsJournalOf, JournalReads, EndsIn, ReadsAs, ReplayLeads, RewindLeads, TextsReplay, TextsRewind, ComesToChange, SecondReads, TextsDiffer, Then, dump_refusal, journal_refusal, second_refusal, Leading, TextsLead}
 use Rattle.s2ix_cli_files.specs.Refusals.{error_of_replay}
 
 -- ---- what is read
@@ -72,11 +74,18 @@ dump_is_sound limits text bag is =
     let Bag : Limits → Type 0 = λ l. IsBag (record { limits = l; held = bag.held }) in
     (dumps_have_no_fault limits text).1 (bag.held, subst Bag is.1 is.0, is.2)
 
+one_dump_told : (told : ℕ × DumpFault → Refusal) (limits : Limits) (text : List ℕ)
+    → HasOne (ReadsAs (IsDumpOf limits text) (option_map told (dump_fault limits text)))
+one_dump_told told limits text =
+    one_read (IsDumpOf limits text) (option_map told (dump_fault limits text))
+    (λ none. one_dump_of limits text (none_mapped told (dump_fault limits text) none))
+    (λ bag is. ap (option_map told) (dump_is_sound limits text bag is))
+
 pub one_dump : (limits : Limits) (text : List ℕ) → HasOne (DumpReads limits text)
-one_dump limits text =
-    one_read (IsDumpOf limits text) (option_map dump_refusal (dump_fault limits text))
-    (λ none. one_dump_of limits text (none_mapped dump_refusal (dump_fault limits text) none))
-    (λ bag is. ap (option_map dump_refusal) (dump_is_sound limits text bag is))
+one_dump = one_dump_told dump_refusal
+
+one_second : (limits : Limits) (text : List ℕ) → HasOne (SecondReads limits text)
+one_second = one_dump_told second_refusal
 
 -- ---- a journal
 
@@ -99,7 +108,7 @@ one_journal limits text =
 same_refusal : {A : Type 0} (r s : Refusal) → (let e : Result A Refusal = Err r in e) ≡ Err s → r ≡ s
 same_refusal r s is = cc
 
-same_value : {A : Type 0} (a b : A) → (let r : Result A Refusal = Ok a in r) ≡ Ok b → a ≡ b
+pub same_value : {A : Type 0} (a b : A) → (let r : Result A Refusal = Ok a in r) ≡ Ok b → a ≡ b
 same_value a b is = cc
 
 then_one : {A B : Type 0} (First : Result A Refusal → Type 0) (Next : A → Result B Refusal → Type 0) (first : Result A Refusal)
@@ -188,8 +197,16 @@ one_replayed = one_texts ReplayLeads one_replay
 pub one_rewound : (limits : Limits) (dump journal : List ℕ) → HasOne (TextsRewind limits dump journal)
 one_rewound = one_texts RewindLeads one_rewind
 
+one_change : (old new : LimitedCollection) → HasOne (ComesToChange old new)
+one_change old new = (Ok (change_between old.held new.held), refl, λ other is. is)
+
+pub one_difference : (limits : Limits) (first second : List ℕ) → HasOne (TextsDiffer limits first second)
+one_difference limits first second =
+    one_then (DumpReads limits first) (λ old. Then (SecondReads limits second) (ComesToChange old)) (one_dump limits first)
+    (λ old. one_then (SecondReads limits second) (ComesToChange old) (one_second limits second) (one_change old))
+
 -- what comes to one thing has one answer
-pub one_answer : (printed : LimitedCollection → List ℕ) (ComesTo : Result LimitedCollection Refusal → Type 0) → HasOne ComesTo
+pub one_answer : {A : Type 0} (printed : A → List ℕ) (ComesTo : Result A Refusal → Type 0) → HasOne ComesTo
     → HasOne (IsAnswerTo printed ComesTo)
 one_answer printed ComesTo one =
     (answer_of printed one.0, (one.0, one.1, refl), λ other is. is.2 ∙ ap (answer_of printed) (one.2 is.0 is.1))

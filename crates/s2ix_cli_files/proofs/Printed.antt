@@ -9,7 +9,7 @@ use Rattle.s2ix_text_parts.specs.declared.sink.WriteFault.{WriteFault}
 use Rattle.s2ix_text_parts.specs.Puts.{Writes}
 use Rattle.s2ix_text_parts.proofs.Prefixes.{IsFront-refl}
 use Rattle.s2ix_cli_files.specs.declared.refusal.Refusal.{Refusal}
-use Rattle.s2ix_cli_files.specs.declared.refusal.Refusal.TheVariants.{Dump, Journal, Mismatch, TooManyCopies, TooManyPairs}
+use Rattle.s2ix_cli_files.specs.declared.refusal.Refusal.TheVariants.{Dump, Second, Journal, Mismatch, TooManyCopies, TooManyPairs}
 use Rattle.s2ix_cli_files.specs.declared.refusal.TextsError.{TextsError}
 use Rattle.s2ix_cli_files.specs.declared.refusal.TextsError.TheVariants.{Refused}
 use Rattle.s2ix_cli_files.specs.Answers.{Answer, IsRefusalAnswer, Sends, Prints}
@@ -73,6 +73,7 @@ refused_so error refusal is =
 -- the line of a refusal is not empty
 pub some_refusal : (refusal : Refusal) → 0 < length (refusal_line refusal)
 some_refusal (Dump line fault) = omega arith
+some_refusal (Second line fault) = omega arith
 some_refusal (Journal line fault) = omega arith
 some_refusal (Mismatch change entry) = omega arith
 some_refusal (TooManyCopies change) = omega arith

@@ -13,7 +13,7 @@ use Rattle.s2ix_text_write.proofs.Dumps.{bag_dump}
 use Rattle.s2ix_cli_files.specs.Answers.{ReplayAnswers, RewindAnswers}
 use Rattle.s2ix_cli_files.specs.Reads.{ReplayLeads, RewindLeads}
 use Rattle.s2ix_cli_files.specs.Widest.{widest}
-use Rattle.s2ix_cli_files.proofs.History.{done_is_taken_back, done_leads, done_leads_back}
+use Rattle.s2ix_edit.proofs.Journals.{done_is_taken_back, done_leads, done_leads_back}
 use Rattle.s2ix_cli_files.proofs.Recorded.{done_has_journal, done_is_journal}
 use Rattle.s2ix_cli_files.proofs.There.{leads_home}
 use Rattle.s2ix_cli_files.proofs.Widened.{widened, widened_is_store}

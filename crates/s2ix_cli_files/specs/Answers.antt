@@ -9,10 +9,13 @@ use Rattle.s2ix_text_parts.specs.declared.run_fault.RunFault.TheVariants as faul
 use Rattle.s2ix_text_parts.specs.declared.sink.Sink.{Ghosts as Sink}
 use Rattle.s2ix_text_parts.specs.Puts.{AppendsFront}
 use Rattle.s2ix_text_write.specs.Dump.{dump_text}
+use Rattle.s2ix_text_write.specs.Journal.{journal_text}
+use Rattle.s2ix_bag_pairs.specs.declared.pair.Entry.{Entry}
+use Rattle.s2ix_edit.specs.Steps.{recorded_alone}
 use Rattle.s2ix_cli_files.specs.declared.refusal.Refusal.{Refusal}
 use Rattle.s2ix_cli_files.specs.declared.refusal.TextsError.{TextsError}
 use Rattle.s2ix_cli_files.specs.declared.refusal.TextsError.TheVariants.{Refused, OutOfMemory}
-use Rattle.s2ix_cli_files.specs.Reads.{DumpReads, TextsReplay, TextsRewind}
+use Rattle.s2ix_cli_files.specs.Reads.{DumpReads, TextsDiffer, TextsReplay, TextsRewind}
 use Rattle.s2ix_cli_files.specs.Refusals.{refusal_line}
 
 -- ---- answers
@@ -22,14 +25,14 @@ pub record Answer : Type 0 where
   pub text : List ℕ
   pub accepted : Bool
 
--- what is answered if texts come to a bag, which is printed so, or to a refusal, which prints its line
-abbrev pub answer_of : (LimitedCollection → List ℕ) → Result LimitedCollection Refusal → Answer
-answer_of printed (Ok bag) = record { text = printed bag; accepted = true }
+-- what is answered if texts come to a value, which is printed so, or to a refusal, which prints its line
+abbrev pub answer_of : {A : Type 0} → (A → List ℕ) → Result A Refusal → Answer
+answer_of printed (Ok a) = record { text = printed a; accepted = true }
 answer_of printed (Err refusal) = record { text = refusal_line refusal; accepted = false }
 
--- the answer to texts that come to a bag or a refusal
-abbrev pub IsAnswerTo : (LimitedCollection → List ℕ) → (Result LimitedCollection Refusal → Type 0) → Answer → Type 0
-IsAnswerTo printed ComesTo answer = (outcome : Result LimitedCollection Refusal) × ComesTo outcome × (answer ≡ answer_of printed outcome)
+-- the answer to texts that come to a value or a refusal
+abbrev pub IsAnswerTo : {A : Type 0} → (A → List ℕ) → (Result A Refusal → Type 0) → Answer → Type 0
+IsAnswerTo {A} printed ComesTo answer = (outcome : Result A Refusal) × ComesTo outcome × (answer ≡ answer_of printed outcome)
 
 -- the line of a bag that is accepted: ok PAIRS COPIES
 abbrev pub counts_line : LimitedCollection → List ℕ
@@ -59,15 +62,36 @@ ReplayAnswers limits dump journal = IsAnswerTo dump_of (TextsReplay limits dump 
 abbrev pub RewindAnswers : Limits → List ℕ → List ℕ → Answer → Type 0
 RewindAnswers limits dump journal = IsAnswerTo dump_of (TextsRewind limits dump journal)
 
+-- the answer to a dump and the journal that led to it, from which a store goes on under limits: if the changes can't be taken back, what is
+-- refused is answered as if they were, and else nothing is printed
+abbrev pub ResumeAnswers : Limits → List ℕ → List ℕ → Answer → Type 0
+ResumeAnswers limits dump journal = IsAnswerTo no_text (TextsRewind limits dump journal)
+
+-- a change is printed as its journal; one without entries as the journal of no changes
+abbrev pub journal_of : List Entry → List ℕ
+journal_of change = journal_text (recorded_alone change)
+
+-- the answer to two dumps that are compared under limits
+abbrev pub DiffAnswers : Limits → List ℕ → List ℕ → Answer → Type 0
+DiffAnswers limits first second = IsAnswerTo journal_of (TextsDiffer limits first second)
+
 -- the answer that an error of the texts tells; want of memory tells none
 abbrev pub IsRefusalAnswer : TextsError → Answer → Type 0
 IsRefusalAnswer (Refused refusal) answer = answer ≡ record { text = refusal_line refusal; accepted = false }
 IsRefusalAnswer OutOfMemory answer = ⊥
 
--- the answer that a bag or an error of the texts tells
+-- the answer that a value or an error of the texts tells
+abbrev pub IsOutcomeAnswer : {A : Type 0} → (A → List ℕ) → Result A TextsError → Answer → Type 0
+IsOutcomeAnswer printed (Ok a) answer = answer ≡ answer_of printed (Ok a)
+IsOutcomeAnswer printed (Err error) answer = IsRefusalAnswer error answer
+
+-- that of a bag
 abbrev pub IsDumpAnswer : Result LimitedCollection TextsError → Answer → Type 0
-IsDumpAnswer (Ok bag) answer = answer ≡ answer_of dump_of (Ok bag)
-IsDumpAnswer (Err error) answer = IsRefusalAnswer error answer
+IsDumpAnswer outcome = IsOutcomeAnswer dump_of outcome
+
+-- that of a change
+abbrev pub IsChangeAnswer : Result (List Entry) TextsError → Answer → Type 0
+IsChangeAnswer outcome = IsOutcomeAnswer journal_of outcome
 
 -- ---- telling them
 

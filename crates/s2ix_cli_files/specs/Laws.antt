@@ -7,7 +7,7 @@ use Rattle.s2ix_bag.specs.Replay.{replay_refusal, replayed, rewind_refusal, rewo
 use Rattle.s2ix_edit.specs.Steps.{with_held}
 use Rattle.s2ix_edit.specs.Store.{IsStore}
 use Rattle.s2ix_text_write.specs.Dump.{dump_text}
-use Rattle.s2ix_cli_files.specs.Answers.{Answer}
+use Rattle.s2ix_cli_files.specs.Answers.{Answer, DiffAnswers, ReplayAnswers, RewindAnswers}
 use Rattle.s2ix_cli_files.specs.Reads.{DumpReads}
 
 -- what is answered to a dump, and then to what that answer writes, is the dump that is written of the collection read first
@@ -23,6 +23,14 @@ BytesComeBack There Back =
     (limits : Limits) (hs : Collection) (journal : List ℕ) (answer : Answer) → There limits (dump_text hs) journal answer
     → answer.accepted ≡ true
     → Back limits answer.text journal (record { text = dump_text hs; accepted = true })
+
+-- the change between two dumps, if both are accepted, leads from the collection of the first to that of the second, and back
+abbrev pub DiffsLead : Type 0
+DiffsLead =
+    (limits : Limits) (first second : List ℕ) (answer : Answer) → DiffAnswers limits first second answer → answer.accepted ≡ true
+    → (old new : LimitedCollection) × DumpReads limits first (Ok old) × DumpReads limits second (Ok new)
+    × ReplayAnswers limits first answer.text (record { text = dump_text new.held; accepted = true })
+    × RewindAnswers limits second answer.text (record { text = dump_text old.held; accepted = true })
 
 abbrev pub DoneLeadsFromFirst : Type 0
 DoneLeadsFromFirst =

@@ -14,8 +14,11 @@ use Rattle.s2ix_bag.specs.Replay.{replay_refusal, replayed, rewind_refusal, rewo
 use Rattle.s2ix_text_write.specs.Dump.{IsDump}
 use Rattle.s2ix_text_write.specs.Journal.{IsJournalText}
 use Rattle.s2ix_cli_files.specs.declared.refusal.Refusal.{Refusal}
-use Rattle.s2ix_cli_files.specs.declared.refusal.Refusal.TheVariants.{Dump, Journal}
+use Rattle.s2ix_cli_files.specs.declared.refusal.Refusal.TheVariants.{Dump, Second, Journal}
 use Rattle.s2ix_cli_files.specs.declared.refusal.TextsError.TheVariants.{Refused}
+use Rattle.s2ix_bag_pairs.specs.Change.{change_between}
+use Rattle.s2ix_edit_plan.specs.State.{State}
+use Rattle.s2ix_edit.specs.Given.{led_by}
 use Rattle.s2ix_cli_files.specs.Refusals.{error_of_replay}
 
 -- ---- one text
@@ -36,6 +39,14 @@ IsDumpOf limits text bag = IsBag bag × (bag.limits ≡ limits) × IsDump text b
 -- a text that is read as a dump under limits
 abbrev pub DumpReads : Limits → List ℕ → Result LimitedCollection Refusal → Type 0
 DumpReads limits text = ReadsAs (IsDumpOf limits text) (option_map dump_refusal (dump_fault limits text))
+
+-- the refusal of a fault of the second of two dumps
+abbrev pub second_refusal : ℕ × DumpFault → Refusal
+second_refusal found = Second found.0 found.1
+
+-- a text that is read under limits as the second of two dumps
+abbrev pub SecondReads : Limits → List ℕ → Result LimitedCollection Refusal → Type 0
+SecondReads limits text = ReadsAs (IsDumpOf limits text) (option_map second_refusal (dump_fault limits text))
 
 -- the refusal of a journal's fault
 abbrev pub journal_refusal : ℕ × JournalFault → Refusal
@@ -84,3 +95,19 @@ TextsReplay = TextsLead ReplayLeads
 -- the changes are taken back
 abbrev pub TextsRewind : Limits → List ℕ → List ℕ → Result LimitedCollection Refusal → Type 0
 TextsRewind = TextsLead RewindLeads
+
+-- the store that goes on from the bag of a dump, with the changes of a journal done
+abbrev pub Resumes : Limits → List ℕ → List ℕ → State → Type 0
+Resumes limits dump journal s =
+    (bag : LimitedCollection) × (changes : List (List Entry)) × DumpReads limits dump (Ok bag) × JournalReads limits journal (Ok changes)
+    × (s ≡ led_by bag changes)
+
+-- ---- two dumps
+
+-- two bags come to the change between them
+abbrev pub ComesToChange : LimitedCollection → LimitedCollection → Result (List Entry) Refusal → Type 0
+ComesToChange old new outcome = outcome ≡ Ok (change_between old.held new.held)
+
+-- first the one dump is read, then the other, and then comes the change from the one to the other
+abbrev pub TextsDiffer : Limits → List ℕ → List ℕ → Result (List Entry) Refusal → Type 0
+TextsDiffer limits first second = Then (DumpReads limits first) (λ old. Then (SecondReads limits second) (ComesToChange old))

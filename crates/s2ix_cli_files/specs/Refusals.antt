@@ -8,7 +8,7 @@ use Rattle.s2ix_text.specs.declared.journal_error.JournalError.TheVariants as jo
 use Rattle.s2ix_bag.specs.declared.replay_error.ReplayError.{ReplayError}
 use Rattle.s2ix_bag.specs.declared.replay_error.ReplayError.TheVariants as replay
 use Rattle.s2ix_cli_files.specs.declared.refusal.Refusal.{Refusal}
-use Rattle.s2ix_cli_files.specs.declared.refusal.Refusal.TheVariants.{Dump, Journal, Mismatch, TooManyCopies, TooManyPairs}
+use Rattle.s2ix_cli_files.specs.declared.refusal.Refusal.TheVariants.{Dump, Second, Journal, Mismatch, TooManyCopies, TooManyPairs}
 use Rattle.s2ix_cli_files.specs.declared.refusal.TextsError.{TextsError}
 use Rattle.s2ix_cli_files.specs.declared.refusal.TextsError.TheVariants.{Refused, OutOfMemory}
 use Rattle.s2ix_cli_files.specs.Names.{dump_fault_name, journal_fault_name}
@@ -25,6 +25,7 @@ line_numbered_twice name first second =
 -- the line of a refusal: its name and its numbers
 abbrev pub refusal_line : Refusal → List ℕ
 refusal_line (Dump line fault) = numbered_line (codes "no ") (dump_fault_name fault) line
+refusal_line (Second line fault) = numbered_line (codes "no second ") (dump_fault_name fault) line
 refusal_line (Journal line fault) = numbered_line (codes "no journal ") (journal_fault_name fault) line
 refusal_line (Mismatch change entry) = line_numbered_twice (codes "Mismatch") change entry
 refusal_line (TooManyCopies change) = numbered_line (codes "no ") (codes "TooManyCopies") change

@@ -1,5 +1,5 @@
 //! Laws: functions that do nothing; their contracts state facts about definitions.
-ghost use Rattle.std.specs.Prelude.{◌≡◌, ◌↔◌, ℕ, IsTrue, None, Some, true, List, slice_get};
+ghost use Rattle.std.specs.Prelude.{◌≡◌, ◌↔◌, ℕ, IsTrue, None, Some, true, List, [], slice_get};
 ghost use Rattle.s2ix_bag_pairs.specs.Collection.{Collection};
 ghost use Rattle.s2ix_bag_pairs.specs.declared.limits.Limits.{Limits};
 ghost use Rattle.s2ix_bag_pairs.specs.declared.pair.Entry.{Entry};
@@ -13,8 +13,10 @@ ghost use Rattle.s2ix_text.specs.JournalFaults.{journal_fault};
 ghost use Rattle.s2ix_text.specs.Journals.{IsJournal};
 ghost use Rattle.s2ix_cli_files.specs.declared.refusal.Refusal.{Refusal};
 ghost use Rattle.s2ix_cli_files.specs.declared.refusal.TextsError.{TextsError};
-ghost use Rattle.s2ix_cli_files.specs.Answers.{CheckAnswers, LoadAnswers, ReplayAnswers, RewindAnswers};
-ghost use Rattle.s2ix_cli_files.specs.Laws.{BytesComeBack, ComesBack, DoneLeadsBackToFirst, DoneLeadsFromFirst, HasOne};
+ghost use Rattle.s2ix_cli_files.specs.Answers.{CheckAnswers, DiffAnswers, LoadAnswers, ReplayAnswers, ResumeAnswers, RewindAnswers};
+ghost use Rattle.s2ix_cli_files.specs.Laws.{BytesComeBack, ComesBack, DiffsLead, DoneLeadsBackToFirst, DoneLeadsFromFirst, HasOne};
+ghost use Rattle.s2ix_cli_files.specs.Reads.{Resumes};
+ghost use Rattle.s2ix_edit.specs.Given.{led_by};
 ghost use Rattle.s2ix_cli_files.specs.Widest.{widest};
 
 use crate::refusal::{Refusal, TextsError};
@@ -25,6 +27,8 @@ pub fn texts_have_one_answer()
     ensures check { (limits : Limits) (text : List ℕ) → HasOne (CheckAnswers limits text) }
     ensures replay { (limits : Limits) (dump journal : List ℕ) → HasOne (ReplayAnswers limits dump journal) }
     ensures rewind { (limits : Limits) (dump journal : List ℕ) → HasOne (RewindAnswers limits dump journal) }
+    ensures resume { (limits : Limits) (dump journal : List ℕ) → HasOne (ResumeAnswers limits dump journal) }
+    ensures diff { (limits : Limits) (first second : List ℕ) → HasOne (DiffAnswers limits first second) }
 {}
 
 /// If all of a dump and a journal is accepted, what was replayed and the same journal are rewound to the dump that is written of the same
@@ -75,6 +79,27 @@ pub fn journals_lead_along_a_history()
         → IsStore s
         → slice_get (history_of s).collections 0 ≡ Some first
         → RewindAnswers widest (dump_text s.bag.held) (journal_text s.done) (record { text = dump_text first; accepted = true }) }
+{}
+
+/// The dump and the journal of a store are the store again, but for what could be redone and how many faces its last step rebuilt: all is
+/// accepted, and no other store goes on from these texts.
+pub fn stores_go_on_from_their_texts()
+    ensures accepted { (s : State)
+        → IsStore s
+        → ResumeAnswers s.bag.limits (dump_text s.bag.held) (journal_text s.done) (record { text = []; accepted = true }) }
+    ensures store { (s : State)
+        → IsStore s
+        → Resumes s.bag.limits (dump_text s.bag.held) (journal_text s.done) (led_by s.bag s.done) }
+    ensures one { (s other : State)
+        → IsStore s
+        → Resumes s.bag.limits (dump_text s.bag.held) (journal_text s.done) other
+        → other ≡ led_by s.bag s.done }
+{}
+
+/// What two dumps differ by leads from the first to the second: replayed over the first, the journal of the change gives the dump of what
+/// the second holds, and rewound from the second that of what the first holds.
+pub fn diffs_lead_from_dump_to_dump()
+    ensures { DiffsLead }
 {}
 
 /// An edit and then an undo restore the dump too, byte for byte.

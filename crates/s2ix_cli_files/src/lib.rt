@@ -1,4 +1,5 @@
-//! What the program does with whole files: a dump is loaded or checked, and a dump with a journal is replayed or rewound.
+//! What the program does with whole files: a dump is loaded or checked, a dump with a journal is replayed, rewound or gone on from, and two
+//! dumps are compared.
 //!
 //! Each call makes an answer: a text, and whether all was accepted. If a file or a change is refused, the text is one line with the name
 //! of the refusal and its numbers. A call reads the texts and does the changes before it puts the first byte, and flushes after the last.
@@ -8,6 +9,7 @@
 #![tactic(auto)]
 
 mod check;
+mod diff;
 pub mod laws;
 mod load;
 mod names;
@@ -15,9 +17,12 @@ mod printing;
 mod reads;
 mod refusal;
 mod replay;
+mod resume;
 
 pub use check::check_text;
+pub use diff::diff_texts;
 pub use load::load_text;
 pub use names::{dump_fault_name, journal_fault_name};
 pub use refusal::{Refusal, TextsError};
 pub use replay::{replay_texts, rewind_texts};
+pub use resume::resume_texts;

@@ -2,13 +2,14 @@
 ghost use Rattle.std.specs.Prelude.{◌≡◌, ◌+◌, Err, IfErr};
 ghost use Rattle.s2ix_text_parts.specs.DeviceFaults.{CanCount, IsWantOnlyIf, sink_faults};
 ghost use Rattle.s2ix_text_parts.specs.Puts.{Writes};
-ghost use Rattle.s2ix_cli_files.specs.Answers.{IsDumpAnswer, IsRefusalAnswer, Prints, counts_line};
+ghost use Rattle.s2ix_cli_files.specs.Answers.{IsChangeAnswer, IsDumpAnswer, IsRefusalAnswer, Prints, counts_line, journal_of};
 
 use crate::refusal::{TextsError, write_refusal};
 use itoa::Buffer;
-use s2ix_bag_changes::Bag;
+use s2ix_bag_changes::{Bag, Change};
 use s2ix_text_parts::{RunFault, Sink, WriteFault, put_parts};
-use s2ix_text_write::write_dump;
+use s2ix_text_write::{write_dump, write_journal};
+use std::slice::from_ref;
 
 // Writes how many pairs and copies a bag holds.
 pub(crate) fn write_counts<K: Sink>(bag: &Bag, sink: &mut K) -> Result<(), WriteFault>
@@ -59,6 +60,38 @@ pub(crate) fn print_dump<K: Sink>(
     match outcome {
         Ok(bag) => {
             write_dump(&bag, sink)?;
+            sink.flush()?;
+            Ok(true)
+        }
+        Err(error) => print_refusal(error, sink),
+    }
+}
+
+// Writes the journal of a change, or that of no changes if it has no entries.
+fn write_change<K: Sink>(change: &Change, sink: &mut K) -> Result<(), WriteFault>
+    requires { CanCount (K.fault_count sink.old) }
+    ensures { Writes K.Sink sink.old sink.new result (journal_of change.now) }
+{
+    if change.entries().is_empty() {
+        write_journal(&[], sink)
+    } else {
+        write_journal(from_ref(change), sink)
+    }
+}
+
+// Prints the journal of the change that two dumps came to, or the line of what is refused, and flushes the sink.
+pub(crate) fn print_change<K: Sink>(
+    outcome: Result<Change, TextsError>,
+    sink: &mut K,
+) -> Result<bool, RunFault>
+    requires { CanCount (K.fault_count sink.old) }
+    ensures answered { Prints K.Sink (IsChangeAnswer outcome) sink.old sink.new result }
+    ensures memory { IfErr result (IsWantOnlyIf (outcome ≡ Err TextsError.OutOfMemory)) }
+    ensures faults { K.fault_count sink.new ≡ K.fault_count sink.old + sink_faults result }
+{
+    match outcome {
+        Ok(change) => {
+            write_change(&change, sink)?;
             sink.flush()?;
             Ok(true)
         }

@@ -13,8 +13,10 @@ use s2ix_text_parts::{Sink, WriteFault, put_parts};
 /// What is refused first in the texts. A call prints it as a line.
 #[derive(Clone, Copy, Debug, PartialEq, Eq)]
 pub enum Refusal {
-    /// A line of the dump, counted from 1.
+    /// A line of the dump, or of the first of two, counted from 1.
     Dump { line: usize, fault: DumpFault },
+    /// A line of the second of two dumps, counted from 1.
+    Second { line: usize, fault: DumpFault },
     /// A line of the journal, counted from 1.
     Journal { line: usize, fault: JournalFault },
     /// An entry of one of the journal's changes, both counted from 1, whose count is not the bag's.
@@ -133,6 +135,9 @@ pub(crate) fn write_refusal<K: Sink>(refusal: Refusal, sink: &mut K) -> Result<(
 {
     match refusal {
         Refusal::Dump { line, fault } => write_numbered(b"no ", dump_fault_name(fault), line, sink),
+        Refusal::Second { line, fault } => {
+            write_numbered(b"no second ", dump_fault_name(fault), line, sink)
+        }
         Refusal::Journal { line, fault } => {
             write_numbered(b"no journal ", journal_fault_name(fault), line, sink)
         }

@@ -1,7 +1,8 @@
 //! The calls over whole texts.
 use s2id_samples::{TOLD, tell};
 use s2ix_bag::Limits;
-use s2ix_cli::{check_text, load_text, replay_texts, rewind_texts};
+use s2ix_cli::{check_text, diff_texts, load_text, replay_texts, resume_texts, rewind_texts};
+use s2ix_edit::Store;
 use s2ix_text::{KeepingSink, RunFault};
 use std::alloc::Global;
 use std::process::Abort;
@@ -35,9 +36,16 @@ const FAULTY: [(&[u8], &[u8]); 5] = [
 #[derive(Clone, Copy)]
 enum Call {
     Load(&'static [u8]),
+    Resume(&'static [u8], &'static [u8]),
     Check(&'static [u8]),
     Replay(&'static [u8], &'static [u8]),
     Rewind(&'static [u8], &'static [u8]),
+    Diff(&'static [u8], &'static [u8]),
+}
+
+// How many changes can be undone in a store, or `None` if there is none.
+fn changes_done(store: Option<Store>) -> Option<usize> {
+    Some(store?.done().len())
 }
 
 // What a call answers, and where it wrote to.
@@ -48,9 +56,16 @@ fn called(alloc: Global, call: Call) -> (Result<bool, RunFault>, KeepingSink) {
             Ok(store) => Ok(store.is_some()),
             Err(fault) => Err(fault),
         },
+        Call::Resume(dump, journal) => {
+            match resume_texts(alloc, dump, journal, Limits::default(), &mut sink) {
+                Ok(store) => Ok(changes_done(store) == Some(3)),
+                Err(fault) => Err(fault),
+            }
+        }
         Call::Check(dump) => check_text(alloc, dump, &mut sink),
         Call::Replay(dump, journal) => replay_texts(alloc, dump, journal, &mut sink),
         Call::Rewind(dump, journal) => rewind_texts(alloc, dump, journal, &mut sink),
+        Call::Diff(first, second) => diff_texts(alloc, first, second, &mut sink),
     };
     (answer, sink)
 }
@@ -87,6 +102,44 @@ fn refused_texts(rt: HostRuntime) {
     let (replayed, rewound) = (Call::Replay(EMPTY, JOURNAL), Call::Rewind(DUMP, JOURNAL));
     check_call(&rt, rt.alloc(), replayed, true, DUMP_SECOND);
     check_call(&rt, rt.alloc(), rewound, true, EMPTY_SECOND);
+}
+
+#[test]
+fn refused_histories(rt: HostRuntime) {
+    check_call(&rt, rt.alloc(), Call::Resume(DUMP, JOURNAL), true, b"");
+    let resumed = Call::Resume(DUMP_SECOND, JOURNAL_SECOND);
+    check_call(&rt, rt.alloc(), resumed, true, b"");
+    let (other, faulty) = (Call::Resume(EMPTY, JOURNAL), Call::Resume(DUMP, EMPTY));
+    check_call(&rt, rt.alloc(), other, false, b"no Mismatch 3 1\n");
+    check_call(&rt, rt.alloc(), faulty, false, b"no journal BadHeader 1\n");
+}
+
+// Two dumps, with the journal of the change from the first to the second.
+const DIFFS: [(&[u8], &[u8], &[u8]); 4] = [
+    (EMPTY, EMPTY_SECOND, b"s2ix-journal 2\nend 0\n"),
+    (DUMP, DUMP_SECOND, b"s2ix-journal 2\nend 0\n"),
+    (
+        EMPTY,
+        DUMP_SECOND,
+        b"s2ix-journal 2\nchange 1\n04 3 0 3\nend 1\n",
+    ),
+    (
+        DUMP,
+        b"s2ix 2\n04 3 1\n1 7 2\nend 2 3\n",
+        b"s2ix-journal 2\nchange 2\n04 3 3 1\n1 7 0 2\nend 1\n",
+    ),
+];
+
+#[test]
+fn refused_diffs(rt: HostRuntime) {
+    for &(first, second, journal) in &DIFFS {
+        let compared = Call::Diff(first, second);
+        check_call(&rt, rt.alloc(), compared, true, journal);
+        check_call(&rt, rt.alloc(), Call::Replay(first, journal), true, second);
+    }
+    let (first, second) = (Call::Diff(JOURNAL, JOURNAL), Call::Diff(DUMP, JOURNAL));
+    check_call(&rt, rt.alloc(), first, false, b"no BadHeader 1\n");
+    check_call(&rt, rt.alloc(), second, false, b"no second BadHeader 1\n");
 }
 
 // A dump and a journal of either version, with what is written of them.

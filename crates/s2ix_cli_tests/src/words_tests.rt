@@ -1,5 +1,7 @@
 //! The parts of what the program's words are read with, and told of.
-use s2ix_cli::{LimitHelp, WordsFault, limit_error, not_utf8, program, range_text};
+use s2ix_cli::{
+    LimitHelp, WordsFault, limit_error, lone_journal_error, not_utf8, program, range_text,
+};
 use std::alloc::Global;
 
 #[test]
@@ -11,6 +13,7 @@ fn help_and_refusals_are_made(rt: HostRuntime) {
     assert!(rt; help.changes.as_str() == changes);
     assert!(rt; program(rt.alloc(), &help).is_ok());
     assert!(rt; limit_error(rt.alloc(), "max-pairs", "0", 7).is_ok());
+    assert!(rt; lone_journal_error(rt.alloc()).is_ok());
 }
 
 // Whether a word that is no UTF-8 is told with escapes.

@@ -25,10 +25,10 @@ file_rule name = record (new_rule name) { required = true }
 abbrev pub with_words : Text → List Rule → Shape
 with_words name rules = record (new_app name).top { rules = rules }
 
--- `run [--load FILE] [--max-pairs N] [--max-count N] [--max-changes N] [--stop]`
+-- `run [--load FILE] [--journal FILE] [--max-pairs N] [--max-count N] [--max-changes N] [--stop]`
 abbrev pub run_words : Shape
-run_words = with_words (codes "run") (option_rule (codes "load") ∷ option_rule (codes "max-pairs") ∷ option_rule (codes "max-count")
-    ∷ option_rule (codes "max-changes") ∷ flag_rule (codes "stop") ∷ [])
+run_words = with_words (codes "run") (option_rule (codes "load") ∷ option_rule (codes "journal") ∷ option_rule (codes "max-pairs")
+    ∷ option_rule (codes "max-count") ∷ option_rule (codes "max-changes") ∷ flag_rule (codes "stop") ∷ [])
 
 -- `check FILE`
 abbrev pub check_words : Shape
@@ -38,12 +38,16 @@ check_words = with_words (codes "check") (file_rule (codes "FILE") ∷ [])
 abbrev pub texts_words : Text → Shape
 texts_words name = with_words name (file_rule (codes "DUMP") ∷ file_rule (codes "JOURNAL") ∷ [])
 
+-- `diff FIRST SECOND`
+abbrev pub diff_words : Shape
+diff_words = with_words (codes "diff") (file_rule (codes "FIRST") ∷ file_rule (codes "SECOND") ∷ [])
+
 -- all the words: one of the subcommands must be named unless help or the version is asked, and the program's own name is not among the
 -- words
 abbrev pub program : App
 program = record {
   top = record (new_app (codes "s2ix")).top { no_binary_name = true; has_version = true; subcommand_required = true; is_leaf = false };
-  subs = run_words ∷ check_words ∷ texts_words (codes "replay") ∷ texts_words (codes "rewind") ∷ [];
+  subs = run_words ∷ check_words ∷ texts_words (codes "replay") ∷ texts_words (codes "rewind") ∷ diff_words ∷ [];
 }
 
 -- the program's own words, without its subcommands

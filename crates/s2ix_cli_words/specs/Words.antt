@@ -1,5 +1,5 @@
 -- What the program's words ask for.
-use Rattle.std.specs.Prelude.{◌≡◌, ◌≢◌, ◌<◌, ◌^◌, ⊤, ℕ, List, [], ◌∷◌, Option, Some, None, codes, option_map, IsTrue, IsSomeAnd, ◌↔◌, String, string_bytes}
+use Rattle.std.specs.Prelude.{◌≡◌, ◌≢◌, ◌<◌, ◌^◌, ⊤, ℕ, List, [], ◌∷◌, Option, Some, None, codes, IsTrue, IsSomeAnd, ◌↔◌, String, string_bytes}
 use Rattle.std.specs.declared.alloc.Global.{Global}
 use Rattle.std.specs.Str.Parse.{IsNumeral, digits_value, without_leading_plus}
 use Rattle.clap.specs.Words.{Row, Text, fault_of, first_of, subcommand_of, IsAmong, Kinds}
@@ -9,7 +9,9 @@ use Rattle.s2ix_bag_pairs.specs.Limits.{changes_limit, count_limit, pairs_limit}
 use Rattle.s2ix_bag_pairs.specs.declared.limits.Limits.{Limits}
 use Rattle.s2ix_cli_words.specs.Tree.{program}
 use Rattle.s2ix_cli_words.specs.declared.command.Command.{Command}
-use Rattle.s2ix_cli_words.specs.declared.command.Command.TheVariants.{Run, Check, Replay, Rewind}
+use Rattle.s2ix_cli_words.specs.declared.command.Command.TheVariants.{Run, Check, Replay, Rewind, Diff}
+use Rattle.s2ix_cli_words.specs.declared.command.Start.{Start}
+use Rattle.s2ix_cli_words.specs.declared.command.Start.TheVariants.{Empty, Dump, History}
 use Rattle.s2ix_cli_words.specs.declared.words_fault.WordsFault.{WordsFault}
 use Rattle.s2ix_cli_words.specs.declared.words_fault.WordsFault.TheVariants.{Usage, HelpAsked, VersionAsked, OutOfMemory}
 
@@ -34,23 +36,31 @@ AreGiven given limits = IsGiven 1000000 (first_of (codes "max-pairs") given) (pa
 abbrev pub IsFile : Text → List Row → String Global → Type 0
 IsFile name given file = first_of name given ≡ Some (string_bytes file)
 
+-- a run begins with what was given: with a journal only if a dump is
+abbrev pub BeginsWith : List Row → Start → Type 0
+BeginsWith given Empty = (first_of (codes "load") given ≡ None) × (first_of (codes "journal") given ≡ None)
+BeginsWith given (Dump dump) = IsFile (codes "load") given dump × (first_of (codes "journal") given ≡ None)
+BeginsWith given (History dump journal) = IsFile (codes "load") given dump × IsFile (codes "journal") given journal
+
 -- ---- commands
 
 -- the word of a command
 abbrev pub word_of : Command → Text
-word_of (Run load limits stop) = codes "run"
+word_of (Run start limits stop) = codes "run"
 word_of (Check file) = codes "check"
 word_of (Replay dump journal) = codes "replay"
 word_of (Rewind dump journal) = codes "rewind"
+word_of (Diff first second) = codes "diff"
 
 -- the command has what was given after its word
 abbrev pub Has : List Row → Command → Type 0
-Has given (Run load limits stop) = (first_of (codes "load") given ≡ option_map string_bytes load)
+Has given (Run start limits stop) = BeginsWith given start
     × AreGiven given limits
     × (IsTrue stop ↔ (first_of (codes "stop") given ≡ Some (codes "true")))
 Has given (Check file) = IsFile (codes "FILE") given file
 Has given (Replay dump journal) = IsFile (codes "DUMP") given dump × IsFile (codes "JOURNAL") given journal
 Has given (Rewind dump journal) = IsFile (codes "DUMP") given dump × IsFile (codes "JOURNAL") given journal
+Has given (Diff first second) = IsFile (codes "FIRST") given first × IsFile (codes "SECOND") given second
 
 -- the command is that of this word and what was given after it
 abbrev pub IsOf : Text → List Row → Command → Type 0
@@ -75,9 +85,9 @@ AskFor words command = IsMet (asked words) command
 
 -- ---- refusals
 
--- the fault is usage only if no command is asked for, and never help or the version; it may always be want of memory
-abbrev pub Refuses : (Command → Type 0) → WordsFault → Type 0
-Refuses Asks (Usage text) = (command : Command) → Asks command → ⊥
+-- the fault is usage only if nothing of the kind is asked for, and never help or the version; it may always be want of memory
+abbrev pub Refuses : {A : Type 0} → (A → Type 0) → WordsFault → Type 0
+Refuses {A} Asks (Usage text) = (asked_for : A) → Asks asked_for → ⊥
 Refuses Asks (HelpAsked text) = ⊥
 Refuses Asks (VersionAsked text) = ⊥
 Refuses Asks OutOfMemory = ⊤

@@ -3,14 +3,14 @@ ghost use Rattle.std.specs.Prelude.{◌≡◌, ◌↔◌, ℕ, Some, IfErr, IfNo
 ghost use Rattle.clap.specs.Words.{first_of, found_of, rows_of, subcommand_rows_of};
 ghost use Rattle.s2ix_bag_pairs.specs.declared.limits.Limits.{Limits as OfLimits};
 ghost use Rattle.s2ix_cli_words.specs.Shown.{ArePlain, Says};
-ghost use Rattle.s2ix_cli_words.specs.Words.{AreGiven, IsFile, IsGiven, IsMet, IsOf, IsUsage, Lacks, Refuses};
+ghost use Rattle.s2ix_cli_words.specs.Words.{AreGiven, IsFile, IsGiven, IsMet, IsOf, IsUsage, Lacks, Refuses, BeginsWith};
 
-use crate::command::Command;
-use crate::usage::{limit_usage, usage};
+use crate::command::{Command, Start};
+use crate::usage::{limit_usage, lone_journal_usage, usage};
 use crate::words_fault::WordsFault;
 use clap::ArgMatches;
 use s2ix_bag_pairs::Limits;
-use std::alloc::{AllocError, Global};
+use std::alloc::Global;
 
 // What is printed if the name of a file is missing.
 const NO_FILE: &str =
@@ -53,6 +53,11 @@ fn command_given(alloc: Global, word: &str, given: &ArgMatches<'_>) -> Result<Co
             let journal = file_given(alloc, given, "JOURNAL")?;
             Ok(Command::Rewind { dump, journal })
         }
+        "diff" => {
+            let first = file_given(alloc, given, "FIRST")?;
+            let second = file_given(alloc, given, "SECOND")?;
+            Ok(Command::Diff { first, second })
+        }
         _ => Err(usage(alloc, NO_COMMAND)),
     }
 }
@@ -66,9 +71,13 @@ fn run_given(alloc: Global, given: &ArgMatches<'_>) -> Result<Command, WordsFaul
     let Some(limits) = limits_given(given) else {
         return Err(limits_fault(alloc, given));
     };
-    let load = load_given(alloc, given)?;
+    let start = start_given(alloc, given)?;
     let stop = has_flag(given, "stop");
-    Ok(Command::Run { load, limits, stop })
+    Ok(Command::Run {
+        start,
+        limits,
+        stop,
+    })
 }
 
 // The limits that were given, or `None` if one is no number or out of its range.
@@ -130,13 +139,35 @@ fn number_given(given: &ArgMatches<'_>, option: &str, default: u32) -> Option<u3
     }
 }
 
-// The name of the dump to begin with, if one was given.
-fn load_given(alloc: Global, given: &ArgMatches<'_>) -> Result<Option<String>, AllocError>
-    ensures { IfOk result (λ load. first_of (codes "load") (rows_of (found_of given.now)) ≡ option_map string_bytes load) }
+// What to begin with: of the two files a journal is given only with a dump.
+fn start_given(alloc: Global, given: &ArgMatches<'_>) -> Result<Start, WordsFault>
+    ensures given { IfOk result (BeginsWith (rows_of (found_of given.now))) }
+    ensures refused { IfErr result (Refuses (BeginsWith (rows_of (found_of given.now)))) }
+    ensures plain { IfErr result (Says ArePlain) }
 {
     match text_given(given, "load") {
-        Some(file) => Ok(Some(String::from_str(alloc, file)?)),
-        None => Ok(None),
+        Some(dump) => loaded_given(alloc, given, dump),
+        None => match text_given(given, "journal") {
+            Some(_) => Err(lone_journal_usage(alloc)),
+            None => Ok(Start::Empty),
+        },
+    }
+}
+
+// What to begin with if this dump was given.
+fn loaded_given(alloc: Global, given: &ArgMatches<'_>, dump: &str) -> Result<Start, WordsFault>
+    requires { first_of (codes "load") (rows_of (found_of given.now)) ≡ Some dump.now }
+    ensures given { IfOk result (BeginsWith (rows_of (found_of given.now))) }
+    ensures refused { IfErr result (Refuses (BeginsWith (rows_of (found_of given.now)))) }
+    ensures plain { IfErr result (Says ArePlain) }
+{
+    let dump = String::from_str(alloc, dump)?;
+    match text_given(given, "journal") {
+        Some(journal) => {
+            let journal = String::from_str(alloc, journal)?;
+            Ok(Start::History { dump, journal })
+        }
+        None => Ok(Start::Dump { dump }),
     }
 }
 

@@ -7,7 +7,7 @@ pub(crate) const VERSION: &str = "1.1.0";
 
 /// What the help of the program prints after its commands: where the instructions are, what names a file, and each exit status.
 pub(crate) const AFTER_PROGRAM: &str = "'s2ix run --help' lists the instructions of a script.
-FILE, DUMP and JOURNAL name files: '-' is one like any other, and standard input is /dev/stdin.
+FILE, DUMP, JOURNAL, FIRST and SECOND name files: '-' is one like any other, and standard input is /dev/stdin.
 
 Exit status:
   0  All was accepted, or help or version was printed
@@ -21,6 +21,12 @@ pub(crate) const DUMP: &str = "The dump: a file, or /dev/stdin for standard inpu
 
 /// What help prints of a journal that is to be read.
 pub(crate) const JOURNAL: &str = "The journal: a file, or /dev/stdin for standard input";
+
+/// What help prints of the dump before a change.
+pub(crate) const FIRST: &str = "The dump before: a file, or /dev/stdin for standard input";
+
+/// What help prints of the dump after a change.
+pub(crate) const SECOND: &str = "The dump after: a file, or /dev/stdin for standard input";
 
 // What the help of `run` prints, with a line for each row.
 macro_rules! run_help {

@@ -32,14 +32,14 @@ mod usage;
 mod words;
 mod words_fault;
 
-pub use command::Command;
+pub use command::{Command, Start};
 pub use ending::{Ending, status};
 pub use fields::Fields;
 pub use flushing::first_fault;
 pub use input::turns;
 pub use limits::{LimitHelp, range_text};
 pub use numbers::{change_number_spelled, copies_spelled, label_spelled, level_spelled};
-pub use tree::{limit_error, program};
+pub use tree::{limit_error, lone_journal_error, program};
 pub use usage::not_utf8;
 pub use words::command_of;
 pub use words_fault::WordsFault;

@@ -1,12 +1,13 @@
 //! The words that the program knows, as clap is told of them.
 ghost use Rattle.std.specs.Prelude.{◌≡◌, IfOk, false};
 ghost use Rattle.clap.specs.Words.{App, Shape, app_of, kind_of, rule_of, with_subcommand};
-ghost use Rattle.clap.specs.declared.error.ErrorKind.TheVariants.{ValueValidation};
+ghost use Rattle.clap.specs.declared.error.ErrorKind.TheVariants.{MissingRequiredArgument, ValueValidation};
 ghost use Rattle.s2ix_cli_words.specs.Tree.{
   IsSubcommand,
   IsCommand,
   check_words,
   dashed_rule,
+  diff_words,
   file_rule,
   flag_rule,
   option_rule,
@@ -16,13 +17,13 @@ ghost use Rattle.s2ix_cli_words.specs.Tree.{
   texts_words,
 };
 
-use crate::help::{AFTER_PROGRAM, AFTER_RUN, DUMP, JOURNAL, VERSION};
+use crate::help::{AFTER_PROGRAM, AFTER_RUN, DUMP, FIRST, JOURNAL, SECOND, VERSION};
 use crate::limits::{LimitHelp, range_text};
 use clap::error::ErrorKind;
 use clap::{Arg, ArgAction, Command, Error};
 use std::alloc::{AllocError, Global};
 
-/// All the words that the program knows: `run`, `check`, `replay` and `rewind` with their options and files, one of which must be named,
+/// All the words that the program knows: `run`, `check`, `replay`, `rewind` and `diff` with their options and files, one of which must be named,
 /// and those that ask for help or the version. They are read without the program's own name before them. It fails only if a growth is
 /// refused.
 pub fn program<'a>(alloc: Global, limits: &'a LimitHelp) -> Result<Command<'a>, AllocError>
@@ -34,7 +35,8 @@ pub fn program<'a>(alloc: Global, limits: &'a LimitHelp) -> Result<Command<'a>, 
     let replay = "Prints the dump after the changes of the journal";
     let command = with(command, texts(alloc, "replay", replay))?;
     let rewind = "Prints the dump before the changes of the journal";
-    with(command, texts(alloc, "rewind", rewind))
+    let command = with(command, texts(alloc, "rewind", rewind))?;
+    with(command, diff(alloc))
 }
 
 // The program without its subcommands.
@@ -73,6 +75,12 @@ fn run<'a>(alloc: Global, limits: &'a LimitHelp) -> Result<Command<'a>, AllocErr
             "FILE",
             "Begins with the dump in FILE, else with no pairs",
         ))?
+        .arg(option(
+            alloc,
+            "journal",
+            "FILE",
+            "Can undo the changes of the journal in FILE, which led to that dump",
+        ))?
         .arg(option(alloc, "max-pairs", "N", limits.pairs.as_str()))?
         .arg(option(alloc, "max-count", "N", limits.count.as_str()))?
         .arg(option(alloc, "max-changes", "N", limits.changes.as_str()))?
@@ -95,6 +103,18 @@ pub fn limit_error(
     run.error(ErrorKind::ValueValidation, message.as_str())
 }
 
+/// What clap says of a journal for a run that is given no dump. It fails only if a growth is refused.
+pub fn lone_journal_error(alloc: Global) -> Result<Error, AllocError>
+    ensures { IfOk result (λ error. kind_of error ≡ MissingRequiredArgument) }
+{
+    let limits = LimitHelp::new(alloc)?;
+    let mut run = run(alloc, &limits)?.bin_name("s2ix run")?;
+    run.error(
+        ErrorKind::MissingRequiredArgument,
+        "'--journal <FILE>' is the journal of a dump, and there is no '--load <FILE>'",
+    )
+}
+
 // `check` with its file.
 fn check<'a>(alloc: Global) -> Result<Command<'a>, AllocError>
     ensures { IfOk result (IsSubcommand check_words) }
@@ -112,6 +132,16 @@ fn texts<'a>(alloc: Global, name: &'a str, about: &'a str) -> Result<Command<'a>
         .about(about)
         .arg(file(alloc, "DUMP", DUMP))?
         .arg(file(alloc, "JOURNAL", JOURNAL))
+}
+
+// `diff` with its two dumps.
+fn diff<'a>(alloc: Global) -> Result<Command<'a>, AllocError>
+    ensures { IfOk result (IsSubcommand diff_words) }
+{
+    Command::new(alloc, "diff")
+        .about("Prints the journal of the one change from the first dump to the second")
+        .arg(file(alloc, "FIRST", FIRST))?
+        .arg(file(alloc, "SECOND", SECOND))
 }
 
 // `--NAME VALUE`, which may be left out.

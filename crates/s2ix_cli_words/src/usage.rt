@@ -4,7 +4,7 @@ ghost use Rattle.s2ix_cli_words.specs.Shown.{ArePlain, Says, as_usage, not_utf8_
 ghost use Rattle.s2ix_cli_words.specs.Words.{IsUsage};
 
 use crate::shown::{error_text, escaped_word, on_one_line, plain_text};
-use crate::tree::limit_error;
+use crate::tree::{limit_error, lone_journal_error};
 use crate::words_fault::WordsFault;
 use std::alloc::{AllocError, Global};
 
@@ -33,6 +33,21 @@ fn limit_text(alloc: Global, option: &str, value: &str, greatest: u32) -> Result
         alloc,
         &limit_error(alloc, option, value.as_str(), greatest)?,
     )
+}
+
+/// The usage of a journal for a run that is given no dump.
+pub(crate) fn lone_journal_usage(alloc: Global) -> WordsFault
+    ensures usage { IsUsage result }
+    ensures plain { Says ArePlain result }
+{
+    told(lone_journal_text(alloc))
+}
+
+// What clap says of a journal for a run that is given no dump.
+fn lone_journal_text(alloc: Global) -> Result<String, AllocError>
+    ensures { IfOk result (λ text. ArePlain (string_bytes text)) }
+{
+    error_text(alloc, &lone_journal_error(alloc)?)
 }
 
 /// What is printed for a word that is no UTF-8: usage that names it, with escapes for its bytes, or `OutOfMemory`. O(n) for a word of n

@@ -12,7 +12,10 @@ use s2ix_cli::{
     Command, RunEnd, RunFault, RunOptions, WordsFault, check_text, command_of, load_text,
     read_whole, replay_texts, rewind_texts, run,
 };
-use s2ix_edit::{Edit, EditError, RedoError, Store, StoreTable, UndoError};
+use s2ix_edit::{
+    Edit, EditError, HistoryError, JoinError, RecordError, RedoError, RemoveError, Store,
+    StoreTable, UndoError,
+};
 use s2ix_table::{
     BagReader, ChainIter, ChainTable, CopiedTable, Cost, FacedTable, Meter, PairReader, RangeIter,
     RangeRow, RangeTable, Reader, Visit, chain_at, contents, ranges, walk,

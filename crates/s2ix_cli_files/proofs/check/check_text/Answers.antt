@@ -7,7 +7,7 @@ use Rattle.s2ix_cli_files.specs.Answers.{CheckAnswers, IsRefusalAnswer, counts_l
 use Rattle.s2ix_cli_files.specs.Reads.{DumpReads}
 use Rattle.s2ix_cli_files.specs.Refusals.{IsRefusedBy}
 use Rattle.s2ix_cli_files.specs.Widest.{widest}
-use Rattle.s2ix_cli_files.proofs.Outcomes.{bag_answer, refusal_answer, some_counts, want_as}
+use Rattle.s2ix_cli_files.proofs.Outcomes.{value_answer, refusal_answer, some_counts, want_as}
 use Rattle.s2ix_cli_files.proofs.Printed.{printed_as, printed_front, printed_unflushed, printed_whole}
 use Rattle.s2ix_cli_files.proofs.Widest.{as_widest}
 use Rattle.s2ix_cli_files.proofs.check.check_text.Goals as goal
@@ -17,7 +17,7 @@ returns-in_err-write_counts-in-Ok-clause-answered g c =
     let p = err_from_is_err_and c.from_residual.result c.from_residual.ensures.1 in
     let reads =
     as_widest (λ (l : Limits). DumpReads l c.args.text.now (Ok c.in-Ok.bag)) c.default.result c.default.ensures c.in-Ok.ensures.bag in
-    let is = bag_answer counts_line (DumpReads widest c.args.text.now) c.in-Ok.bag reads in
+    let is = value_answer counts_line (DumpReads widest c.args.text.now) c.in-Ok.bag reads in
     rw (p.1, p.2) (printed_front g.K.Sink (CheckAnswers widest c.args.text.now) true is c.in_err-write_counts-in-Ok.ensures)
 
 pub returns-in_err-flush-in-Ok-clause-answered : goal.returns-in_err-flush-in-Ok-clause-answered
@@ -26,7 +26,7 @@ returns-in_err-flush-in-Ok-clause-answered g c =
     let p = err_from_is_err_and exit.result exit.ensures.1 in
     let reads =
     as_widest (λ (l : Limits). DumpReads l c.args.text.now (Ok c.in-Ok.bag)) c.default.result c.default.ensures c.in-Ok.ensures.bag in
-    let is = bag_answer counts_line (DumpReads widest c.args.text.now) c.in-Ok.bag reads in
+    let is = value_answer counts_line (DumpReads widest c.args.text.now) c.in-Ok.bag reads in
     rw (p.1, p.2) (printed_unflushed g.K.Sink (CheckAnswers widest c.args.text.now) true is c.in_ok-write_counts-in-Ok.ensures
     c.in_err-flush-in-Ok.ensures.bytes)
 
@@ -34,7 +34,7 @@ pub returns-in_ok-flush-in-Ok-clause-answered : goal.returns-in_ok-flush-in-Ok-c
 returns-in_ok-flush-in-Ok-clause-answered g c =
     let reads =
     as_widest (λ (l : Limits). DumpReads l c.args.text.now (Ok c.in-Ok.bag)) c.default.result c.default.ensures c.in-Ok.ensures.bag in
-    let is = bag_answer counts_line (DumpReads widest c.args.text.now) c.in-Ok.bag reads in
+    let is = value_answer counts_line (DumpReads widest c.args.text.now) c.in-Ok.bag reads in
     let flush = c.in_ok-flush-in-Ok.ensures in
     printed_whole g.K.Sink (CheckAnswers widest c.args.text.now) true (some_counts c.in-Ok.bag) is c.in_ok-write_counts-in-Ok.ensures
     flush.call flush.bytes

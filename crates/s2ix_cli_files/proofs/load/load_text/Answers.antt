@@ -4,7 +4,7 @@ use Rattle.s2ix_text_parts.specs.LineFaults.{IsFromLine}
 use Rattle.s2ix_text.specs.declared.dump_error.DumpFault.{DumpFault}
 use Rattle.s2ix_cli_files.specs.Answers.{IsRefusalAnswer, LoadAnswers, no_text}
 use Rattle.s2ix_cli_files.specs.Reads.{DumpReads}
-use Rattle.s2ix_cli_files.proofs.Outcomes.{bag_answer, refusal_answer, printed_refused}
+use Rattle.s2ix_cli_files.proofs.Outcomes.{value_answer, refusal_answer, printed_refused}
 use Rattle.s2ix_cli_files.proofs.Printed.{printed_as}
 use Rattle.s2ix_cli_files.proofs.load.load_text.Goals as goal
 
@@ -23,7 +23,7 @@ returns-in_err-print_refusal-in-Err-clause-answered g c =
 
 pub returns-in_ok-store-in-Ok-clause-answered : goal.returns-in_ok-store-in-Ok-clause-answered
 returns-in_ok-store-in-Ok-clause-answered g c =
-    (_, bag_answer no_text (DumpReads c.args.limits c.args.text.now) c.in-Ok.bag c.in-Ok.ensures.bag, refl, refl)
+    (_, value_answer no_text (DumpReads c.args.limits c.args.text.now) c.in-Ok.bag c.in-Ok.ensures.bag, refl, refl)
 
 pub returns-in_ok-print_refusal-in-Err-clause-answered : goal.returns-in_ok-print_refusal-in-Err-clause-answered
 returns-in_ok-print_refusal-in-Err-clause-answered g c =

@@ -7,11 +7,11 @@ returns-in_default-clause-given c = search rules
 pub returns-in_default-clause-refused : goal.returns-in_default-clause-refused
 returns-in_default-clause-refused c = search rules
 
-pub returns-in_err-load-clause-given : goal.returns-in_err-load-clause-given
-returns-in_err-load-clause-given c = search rules
+pub returns-in_err-start-clause-given : goal.returns-in_err-start-clause-given
+returns-in_err-start-clause-given c = search rules
 
-pub returns-in_err-load-clause-refused : goal.returns-in_err-load-clause-refused
-returns-in_err-load-clause-refused c = search rules
+pub returns-in_err-start-clause-refused : goal.returns-in_err-start-clause-refused
+returns-in_err-start-clause-refused c = search rules
 
 pub returns-clause-given : goal.returns-clause-given
 returns-clause-given c = search rules
