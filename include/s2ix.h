@@ -17,7 +17,8 @@
    - in a call that names both statuses, S2IX_NO_ROOM;
    - in an edit, S2IX_NO_CHANGE, S2IX_TOO_MANY_COPIES or S2IX_TOO_MANY_PAIRS;
    - in s2ix_add_all and s2ix_add_union, S2IX_JOURNAL_FULL too;
-   - in s2ix_load, s2ix_replay and s2ix_rewind, whatever is wrong after the dump's first line.
+   - in s2ix_load, s2ix_replay, s2ix_rewind and s2ix_resume, whatever is wrong after the dump's first line;
+   - in s2ix_apply, whatever is wrong after the journal's first line.
 
    A call wants no memory if it is given no rows or cells, a label that is not held, equal bounds, or a page with no room. The
    exception is s2ix_line, which may want memory for any query.
@@ -33,6 +34,10 @@
    - No call is made in a signal handler, or in the forked child of a process with threads. */
 #ifndef S2IX_H
 #define S2IX_H
+
+/* The version of this header and of its library. A program that was built with this header runs over each later library whose version begins
+   with the same number, which the soname has too. */
+#define S2IX_VERSION "1.1.0"
 
 #include <stdbool.h>
 #include <stddef.h>
@@ -77,7 +82,7 @@ enum s2ix_status {
     S2IX_NOTHING_TO_REDO = 7,
     S2IX_NO_ROOM = 8,         /* the buffer is too short */
     S2IX_NO_DUMP = 9,         /* the text is no dump under the limits */
-    S2IX_JOURNAL_FULL = 16,   /* the changes to undo are as many as the limit allows: s2ix_forget makes room */
+    S2IX_JOURNAL_FULL = 16,   /* the changes to undo are as many as the limit allows: s2ix_forget_older makes room */
     S2IX_NO_SUCH_LABEL = 17,  /* no pair of the label is held */
     S2IX_NOT_HELD = 18,       /* too few copies held */
     S2IX_TOO_FINE = 19,       /* the level is above 30, or more than 8 above that of the cell, or of a cell of the label */
@@ -90,11 +95,16 @@ enum s2ix_status {
     S2IX_NO_SPAN = 26,        /* a bound is even, or not 1 <= start <= limit <= 0xc000000000000001 */
     S2IX_NO_RANGE = 27,       /* no range is at the place; or none on the side that is asked for has a pair over it */
     S2IX_NO_JOURNAL = 28,     /* the text is no journal under the limits */
-    S2IX_MISMATCH = 29        /* a change has another count of a pair than is held */
+    S2IX_MISMATCH = 29,       /* a change has another count of a pair than is held */
+    S2IX_TOO_FEW_CHANGES = 30 /* fewer changes can be undone than are to be joined */
 };
 
 /* What a status means, in words, as *number bytes with no zero after them; 64 bytes are room enough. S2IX_NO_ROOM. */
 uint32_t s2ix_status_text(uint32_t status, uint8_t *text, size_t room, size_t *number);
+
+/* The version of the library that runs, as S2IX_VERSION is the header's: *number bytes with no zero after them; 64 bytes are room enough.
+   S2IX_NO_ROOM. */
+uint32_t s2ix_version(uint8_t *text, size_t room, size_t *number);
 
 /* Opens a handle of an empty store of at most `pairs` pairs (1 to 1,000,000), `copies` copies of each (1 and up) and `changes` changes to
    undo (1 to 100,000). If the call is not refused, it frees the store that the handle had. O(1), besides the freeing. S2IX_NO_LIMITS,
@@ -117,6 +127,11 @@ uint32_t s2ix_replay(s2ix_handle *handle, const uint8_t *dump, size_t dump_len, 
 
 /* The same, but the changes are taken back from the dump's collection, the last one first. */
 uint32_t s2ix_rewind(s2ix_handle *handle, const uint8_t *dump, size_t dump_len, const uint8_t *journal, size_t journal_len, uint32_t pairs,
+                     uint32_t copies, uint32_t changes, size_t *place, size_t *entry);
+
+/* Opens a handle of the store that a dump and a journal were written of: it starts from the dump's collection, and the journal's changes,
+   the last of which led there, can be undone. Nothing can be redone. All else is as in s2ix_rewind, O(n + m log n) too. */
+uint32_t s2ix_resume(s2ix_handle *handle, const uint8_t *dump, size_t dump_len, const uint8_t *journal, size_t journal_len, uint32_t pairs,
                      uint32_t copies, uint32_t changes, size_t *place, size_t *entry);
 
 /* Opens `copy` on a new store with the same pairs and limits, and with nothing to undo or redo. If the call is not refused, it
@@ -171,8 +186,24 @@ uint32_t s2ix_undo(s2ix_handle *handle, size_t *number);
 /* Redoes the change that was undone last, in the time of s2ix_undo. S2IX_CLOSED, S2IX_NOTHING_TO_REDO, S2IX_OUT_OF_MEMORY. */
 uint32_t s2ix_redo(s2ix_handle *handle, size_t *number);
 
+/* Does the changes of a journal, which another store did from the same pairs on. Each can be undone by itself, and what could be redone is
+   gone, unless there are no changes. All are done, or none. *number is how many pairs have another count than before. What is wrong first
+   decides: a line of the journal under the store's limits, S2IX_JOURNAL_FULL, or a change; *place and *entry tell of it as in s2ix_replay.
+   O(n + m log n) for n bytes and pairs and m entries. S2IX_CLOSED, S2IX_NO_JOURNAL, S2IX_JOURNAL_FULL, S2IX_MISMATCH, S2IX_TOO_MANY_COPIES,
+   S2IX_TOO_MANY_PAIRS, S2IX_OUT_OF_MEMORY. */
+uint32_t s2ix_apply(s2ix_handle *handle, const uint8_t *journal, size_t len, size_t *number, size_t *place, size_t *entry);
+
+/* Makes one change of the last ones that can be undone, so many of them: one undo then takes them back together. *number is how many pairs
+   have another count than before them; if none has, the changes are gone. What is held stays, and so does what can be redone.
+   O(n + m log n) for m entries. S2IX_CLOSED, S2IX_TOO_FEW_CHANGES, S2IX_OUT_OF_MEMORY. */
+uint32_t s2ix_join(s2ix_handle *handle, size_t last, size_t *number);
+
 /* Keeps what is held and drops all changes: nothing is left to undo or redo. O(k) for k changes. S2IX_CLOSED. */
 uint32_t s2ix_forget(s2ix_handle *handle);
+
+/* Drops all changes that can be undone but the newest, at most so many: a full journal gets room, and the last steps can still be undone.
+   What is held stays, and so does what can be redone. O(k) for k changes. S2IX_CLOSED. */
+uint32_t s2ix_forget_older(s2ix_handle *handle, size_t newest);
 
 /* Drops all pairs and all changes, and keeps the limits: nothing is left to undo or redo. O(n). S2IX_CLOSED, S2IX_OUT_OF_MEMORY. */
 uint32_t s2ix_clear(s2ix_handle *handle);
@@ -226,7 +257,7 @@ uint32_t s2ix_undone_count(s2ix_handle *handle, size_t *number);
    O(k) for k entries. S2IX_CLOSED, S2IX_NO_SUCH_CHANGE, S2IX_NO_ROOM. */
 uint32_t s2ix_change(s2ix_handle *handle, uint32_t change, s2ix_entry *entries, size_t room, size_t *number);
 
-/* How many faces, 0 to 6, the last accepted edit, undo or redo rebuilt. O(1). S2IX_CLOSED. */
+/* On how many faces, 0 to 6, the last accepted edit, undo, redo or s2ix_apply changed pairs. O(1). S2IX_CLOSED. */
 uint32_t s2ix_faces_rebuilt(s2ix_handle *handle, size_t *number);
 
 /* How many ranges of leaves there are over which the same pairs lie: at least 1. O(1). S2IX_CLOSED. */

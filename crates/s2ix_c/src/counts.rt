@@ -110,7 +110,7 @@ pub extern "C" fn s2ix_undone_count(alloc: Global, handle: &mut Handle, number: 
     DONE
 }
 
-/// How many faces, 0 to 6, the last accepted edit, undo or redo rebuilt.
+/// On how many faces, 0 to 6, the last accepted edit, undo or redo changed pairs.
 #[tactic(auto, using(crate::proofs::Through::through_open, crate::proofs::Through::through_closed))]
 #[unsafe(no_mangle)]
 pub extern "C" fn s2ix_faces_rebuilt(alloc: Global, handle: &mut Handle, number: &mut usize) -> u32

@@ -18,6 +18,8 @@ mod listing;
 mod queries;
 mod ranges;
 mod replaying;
+mod resuming;
 mod status;
 mod steps;
 mod texts;
+mod version;

@@ -5,14 +5,14 @@ ghost use Rattle.s2ix_bag_pairs.specs.Ranges.{AreLimits};
 ghost use Rattle.s2ix_edit_plan.specs.State.{starting_at};
 ghost use Rattle.s2ix_c_calls.specs.Handle.{held_of};
 ghost use Rattle.s2ix_c_calls.specs.declared.replaying.Direction.TheVariants.{Back, Forward};
-ghost use Rattle.s2ix_c_calls.specs.Replaying.{OpensLed, RefusesIn, refused_at};
+ghost use Rattle.s2ix_c_calls.specs.Replaying.{IsOfTexts, OpensLed, RefusesIn, refused_at, refused_by};
 ghost use Rattle.s2ix_c_calls.specs.Status.{done, no_limits, out_of_memory};
 
 use crate::handles::keep;
 use s2ix_bag_changes::Bag;
 use s2ix_bag_pairs::Limits;
 use s2ix_c_calls::status::{NO_LIMITS, OUT_OF_MEMORY};
-use s2ix_c_calls::{Direction, Handle, refused_of, texts_led};
+use s2ix_c_calls::{Direction, Handle, LedError, refused_of, texts_led};
 use s2ix_edit::Store;
 use std::alloc::Global;
 
@@ -25,6 +25,17 @@ fn keep_bag(alloc: Global, handle: &mut Handle, bag: Bag) -> u32
         Ok(store) => keep(alloc, handle, store),
         Err(_) => OUT_OF_MEMORY,
     }
+}
+
+// Tells what is refused in texts: where, and the status.
+pub(crate) fn tell(error: LedError, place: &mut usize, entry: &mut usize) -> u32
+    ensures told { refused_at result place.new entry.new ≡ refused_by error }
+    ensures status { IsOfTexts result }
+{
+    let refused = refused_of(error);
+    *place = refused.place;
+    *entry = refused.entry;
+    refused.status
 }
 
 // Opens a handle of the store that starts from where a dump and a journal lead, or tells what is refused first.
@@ -54,12 +65,7 @@ fn open_led(
     };
     match texts_led(alloc, direction, dump, journal, limits) {
         Ok(bag) => keep_bag(alloc, handle, bag),
-        Err(error) => {
-            let refused = refused_of(error);
-            *place = refused.place;
-            *entry = refused.entry;
-            refused.status
-        }
+        Err(error) => tell(error, place, entry),
     }
 }
 

@@ -34,4 +34,5 @@ short_text status =
     either (status == 27) _ _ (omega arith) (
     either (status == 28) _ _ (omega arith) (
     either (status == 29) _ _ (omega arith) (
-    omega arith))))))))))))))))))))))))
+    either (status == 30) _ _ (omega arith) (
+    omega arith)))))))))))))))))))))))))

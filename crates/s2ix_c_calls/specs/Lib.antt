@@ -9,5 +9,6 @@ pub mod Texts
 pub mod Ranges
 pub mod Changes
 pub mod Replaying
+pub mod Resuming
 pub mod Line
 pub mod Laws

@@ -8,6 +8,7 @@ use Rattle.s2ix_bag_pairs.specs.declared.limits.Limits.{Limits}
 use Rattle.s2ix_bag_pairs.specs.declared.pair.Entry.{Entry}
 use Rattle.s2ix_bag_pairs.specs.Limits.{pairs_limit, count_limit, changes_limit}
 use Rattle.s2ix_edit_plan.specs.State.{State, starting_at}
+use Rattle.s2ix_edit.specs.declared.history_error.HistoryError.TheVariants as history
 use Rattle.s2ix_text.specs.declared.dump_error.DumpError.TheVariants as dump_error
 use Rattle.s2ix_text.specs.DumpFaults.{IsDumpError, dump_fault}
 use Rattle.s2ix_text.specs.declared.journal_error.JournalError.TheVariants as journal_error
@@ -17,9 +18,9 @@ use Rattle.s2ix_text_write.specs.Journal.{IsJournalText}
 use Rattle.s2ix_c_calls.specs.declared.replaying.Direction.{Direction}
 use Rattle.s2ix_c_calls.specs.declared.replaying.Direction.TheVariants.{Forward, Back}
 use Rattle.s2ix_c_calls.specs.declared.replaying.LedError.{LedError}
-use Rattle.s2ix_c_calls.specs.declared.replaying.LedError.TheVariants.{Dump, Journal, Replay}
+use Rattle.s2ix_c_calls.specs.declared.replaying.LedError.TheVariants.{Dump, Journal, Replay, History}
 use Rattle.s2ix_c_calls.specs.declared.replaying.Refused.{Refused}
-use Rattle.s2ix_c_calls.specs.Status.{done, no_dump, no_journal, no_limits, mismatch, out_of_memory, too_many_copies, too_many_pairs}
+use Rattle.s2ix_c_calls.specs.Status.{done, journal_full, mismatch, no_change, no_dump, no_journal, no_limits, out_of_memory, too_many_copies, too_many_pairs}
 
 -- the bag to which changes lead from another
 abbrev pub led_by : Direction → LimitedCollection → List (List Entry) → LimitedCollection
@@ -61,6 +62,7 @@ IsLedError direction limits dump journal (Dump error) = IsDumpError error (dump_
 IsLedError direction limits dump journal (Journal error) =
     (dump_fault limits dump ≡ None) × IsJournalError error (journal_fault limits journal)
 IsLedError direction limits dump journal (Replay error) = AreTexts limits dump journal (IsChangeError direction error)
+IsLedError direction limits dump journal (History error) = ⊥
 
 -- a status, and the two numbers that say what it is about
 abbrev pub refused_at : ℕ → ℕ → ℕ → Refused
@@ -76,6 +78,12 @@ refused_by (Replay (replay.Mismatch change entry)) = refused_at mismatch change 
 refused_by (Replay (replay.TooManyCopies change)) = refused_at too_many_copies change 0
 refused_by (Replay (replay.TooManyPairs change)) = refused_at too_many_pairs change 0
 refused_by (Replay replay.OutOfMemory) = refused_at out_of_memory 0 0
+refused_by (History history.JournalFull) = refused_at journal_full 0 0
+refused_by (History (history.NoChange change)) = refused_at no_change change 0
+refused_by (History (history.Mismatch change entry)) = refused_at mismatch change entry
+refused_by (History (history.TooManyCopies change)) = refused_at too_many_copies change 0
+refused_by (History (history.TooManyPairs change)) = refused_at too_many_pairs change 0
+refused_by (History history.OutOfMemory) = refused_at out_of_memory 0 0
 
 -- the status of what texts are refused for is neither of these
 abbrev pub IsOfTexts : ℕ → Type 0

@@ -34,8 +34,14 @@ no_room = 8
 abbrev pub no_dump : ℕ
 no_dump = 9
 
+abbrev pub journal_full : ℕ
+journal_full = 16
+
 abbrev pub no_such_change : ℕ
 no_such_change = 20
+
+abbrev pub no_change : ℕ
+no_change = 22
 
 abbrev pub too_many_copies : ℕ
 too_many_copies = 23
@@ -58,15 +64,18 @@ no_journal = 28
 abbrev pub mismatch : ℕ
 mismatch = 29
 
+abbrev pub too_few_changes : ℕ
+too_few_changes = 30
+
 -- the status of a refused edit
 abbrev pub edit_status : EditError → ℕ
-edit_status JournalFull = 16
+edit_status JournalFull = journal_full
 edit_status NoSuchLabel = 17
 edit_status NotHeld = 18
 edit_status TooFine = 19
 edit_status NoSuchChange = 20
 edit_status BelowZero = 21
-edit_status NoChange = 22
+edit_status NoChange = no_change
 edit_status TooManyCopies = 23
 edit_status TooManyPairs = 24
 edit_status OutOfMemory = out_of_memory

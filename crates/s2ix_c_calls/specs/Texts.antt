@@ -27,4 +27,5 @@ status_text status =
     if status == 27 then codes "no range is at the place" else
     if status == 28 then codes "the text is no journal" else
     if status == 29 then codes "a change has another count than is held" else
+    if status == 30 then codes "fewer changes can be undone" else
     codes "no status"

@@ -6,11 +6,13 @@ ghost use Rattle.s2ix_bag.specs.Replay.{IsReplayError};
 ghost use Rattle.s2ix_c_calls.specs.Replaying.{IsLedError, IsOfTexts, LeadTo, first_refusal_by, led_by, refusal_by, refused_by};
 
 use crate::status::{
-    MISMATCH, NO_DUMP, NO_JOURNAL, OUT_OF_MEMORY, TOO_MANY_COPIES, TOO_MANY_PAIRS,
+    JOURNAL_FULL, MISMATCH, NO_CHANGE, NO_DUMP, NO_JOURNAL, OUT_OF_MEMORY, TOO_MANY_COPIES,
+    TOO_MANY_PAIRS,
 };
 use s2ix_bag::{ReplayError, replay, rewind};
 use s2ix_bag_changes::{Bag, Change};
 use s2ix_bag_pairs::Limits;
+use s2ix_edit::HistoryError;
 use s2ix_text::{DumpError, JournalError, read_dump, read_journal};
 use std::alloc::Global;
 
@@ -23,7 +25,7 @@ pub enum Direction {
     Back,
 }
 
-/// Why texts lead to no bag: the first of these that is due.
+/// Why texts lead to no bag, or to no store: the first of these that is due.
 #[derive(Drop)]
 pub enum LedError {
     /// The dump is not read.
@@ -32,6 +34,8 @@ pub enum LedError {
     Journal(JournalError),
     /// A change is refused.
     Replay(ReplayError),
+    /// The changes are refused as those of a store.
+    History(HistoryError),
 }
 
 impl From<DumpError> for LedError {
@@ -64,7 +68,17 @@ impl From<ReplayError> for LedError {
     }
 }
 
-/// What a caller is told of texts that lead to no bag.
+impl From<HistoryError> for LedError {
+    ghost use Rattle.s2ix_c_calls.specs.declared.replaying.LedError.TheVariants.{History};
+
+    ghost from_gives = { λ error made. made ≡ History error };
+
+    fn from(error: HistoryError) -> LedError {
+        LedError::History(error)
+    }
+}
+
+/// What a caller is told of texts that are refused.
 #[derive(Clone, Copy)]
 pub struct Refused {
     /// The status.
@@ -86,9 +100,15 @@ pub fn refused_of(error: LedError) -> Refused
         LedError::Replay(ReplayError::Mismatch { change, entry }) => (MISMATCH, change, entry),
         LedError::Replay(ReplayError::TooManyCopies { change }) => (TOO_MANY_COPIES, change, 0),
         LedError::Replay(ReplayError::TooManyPairs { change }) => (TOO_MANY_PAIRS, change, 0),
+        LedError::History(HistoryError::JournalFull) => (JOURNAL_FULL, 0, 0),
+        LedError::History(HistoryError::NoChange { change }) => (NO_CHANGE, change, 0),
+        LedError::History(HistoryError::Mismatch { change, entry }) => (MISMATCH, change, entry),
+        LedError::History(HistoryError::TooManyCopies { change }) => (TOO_MANY_COPIES, change, 0),
+        LedError::History(HistoryError::TooManyPairs { change }) => (TOO_MANY_PAIRS, change, 0),
         LedError::Dump(DumpError::OutOfMemory)
         | LedError::Journal(JournalError::OutOfMemory)
-        | LedError::Replay(ReplayError::OutOfMemory) => (OUT_OF_MEMORY, 0, 0),
+        | LedError::Replay(ReplayError::OutOfMemory)
+        | LedError::History(HistoryError::OutOfMemory) => (OUT_OF_MEMORY, 0, 0),
     };
     Refused {
         status,

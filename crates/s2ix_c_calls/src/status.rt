@@ -29,10 +29,14 @@ pub const NO_ROOM: u32 = 8;
 /// A text is no dump.
 pub const NO_DUMP: u32 = 9;
 
+/// The changes to undo are as many as the limit allows.
+pub const JOURNAL_FULL: u32 = 16;
 /// A level is too fine.
 pub const TOO_FINE: u32 = 19;
 /// No change has the number.
 pub const NO_SUCH_CHANGE: u32 = 20;
+/// Nothing would change.
+pub const NO_CHANGE: u32 = 22;
 /// A count would pass the limit.
 pub const TOO_MANY_COPIES: u32 = 23;
 /// The number of pairs would pass the limit.
@@ -47,19 +51,21 @@ pub const NO_RANGE: u32 = 27;
 pub const NO_JOURNAL: u32 = 28;
 /// A change has another count than is held.
 pub const MISMATCH: u32 = 29;
+/// Fewer changes can be undone than are to be joined.
+pub const TOO_FEW_CHANGES: u32 = 30;
 
 /// The status of a refused edit.
 pub fn status_of(error: EditError) -> u32
     ensures { result ≡ edit_status error }
 {
     match error {
-        EditError::JournalFull => 16,
+        EditError::JournalFull => JOURNAL_FULL,
         EditError::NoSuchLabel => 17,
         EditError::NotHeld => 18,
         EditError::TooFine => TOO_FINE,
         EditError::NoSuchChange => NO_SUCH_CHANGE,
         EditError::BelowZero => 21,
-        EditError::NoChange => 22,
+        EditError::NoChange => NO_CHANGE,
         EditError::TooManyCopies => TOO_MANY_COPIES,
         EditError::TooManyPairs => TOO_MANY_PAIRS,
         EditError::OutOfMemory => OUT_OF_MEMORY,
@@ -95,6 +101,7 @@ pub fn text_of(status: u32) -> &'static str
         27 => "no range is at the place",
         28 => "the text is no journal",
         29 => "a change has another count than is held",
+        30 => "fewer changes can be undone",
         _ => "no status",
     }
 }

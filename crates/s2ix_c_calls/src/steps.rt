@@ -1,9 +1,10 @@
-//! Undo and redo of a store, and a store that is cleared.
+//! Undo and redo of a store, changes that are joined, and a store that is cleared.
 
+ghost use Rattle.s2ix_c_calls.specs.Resuming.{IsJoined};
 ghost use Rattle.s2ix_c_calls.specs.Stores.{IsRedone, IsUndone, IsCleared};
 
-use crate::status::{DONE, NOTHING_TO_REDO, NOTHING_TO_UNDO, OUT_OF_MEMORY};
-use s2ix_edit::Store;
+use crate::status::{DONE, NOTHING_TO_REDO, NOTHING_TO_UNDO, OUT_OF_MEMORY, TOO_FEW_CHANGES};
+use s2ix_edit::{JoinError, Store};
 use s2ix_edit_plan::{RedoError, UndoError};
 use std::alloc::Global;
 
@@ -41,6 +42,26 @@ pub fn redo_store(store: &mut Store, number: &mut usize) -> u32
             NOTHING_TO_REDO
         }
         Err(RedoError::OutOfMemory) => {
+            *number = 0;
+            OUT_OF_MEMORY
+        }
+    }
+}
+
+/// Makes one change of the last ones that a store can undo, so many of them; `number` is how many pairs it has, 0 if the changes are gone.
+pub fn join_store(store: &mut Store, last: usize, number: &mut usize) -> u32
+    ensures { IsJoined last result number.new store.old store.new }
+{
+    match store.join(last) {
+        Ok(changed) => {
+            *number = changed;
+            DONE
+        }
+        Err(JoinError::TooFewChanges) => {
+            *number = 0;
+            TOO_FEW_CHANGES
+        }
+        Err(JoinError::OutOfMemory) => {
             *number = 0;
             OUT_OF_MEMORY
         }
