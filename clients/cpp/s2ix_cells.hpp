@@ -37,6 +37,14 @@ using Entry = ::s2ix_entry;
   return std::string(bytes, bytes + (has_room ? number : 0));
 }
 
+// The version of the library that runs; S2IX_VERSION is the header's.
+[[nodiscard]] inline std::string version() {
+  std::uint8_t bytes[64] = {};
+  std::size_t number = 0;
+  const bool has_room = s2ix_version(bytes, sizeof bytes, &number) == S2IX_DONE;
+  return std::string(bytes, bytes + (has_room ? number : 0));
+}
+
 // What a refusal says besides its status. The methods of Error with these names explain each.
 struct Where {
   std::size_t line = 0;

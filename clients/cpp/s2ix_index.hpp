@@ -10,6 +10,7 @@
 #include <cstdint>
 #include <limits>
 #include <mutex>
+#include <optional>
 #include <stdexcept>
 #include <string>
 #include <string_view>
@@ -134,6 +135,12 @@ class Index {
     return led(s2ix_rewind, dump, journal, limits);
   }
 
+  // The index that a dump and a journal were written of: it starts from the dump's pairs, and the journal's changes, the last of which led
+  // there, can be undone. Nothing can be redone. All else is as in rewind.
+  [[nodiscard]] static Index resume(std::string_view dump, std::string_view journal, Limits limits = Limits()) {
+    return led(s2ix_resume, dump, journal, limits);
+  }
+
   Index(Index&&) noexcept = default;
   Index& operator=(Index&&) noexcept = default;
   Index(const Index&) = delete;
@@ -229,17 +236,66 @@ class Index {
     return edit([&](::s2ix_handle* handle, std::size_t* to) { return s2ix_revert(handle, change, to); });
   }
 
+  // Does the changes of a journal, which another index did from the same pairs on: all, or none. Each can be undone by itself. Returns
+  // how many pairs have another count than before. S2IX_CLOSED; S2IX_NO_JOURNAL, with the first line that has a fault; S2IX_JOURNAL_FULL; and
+  // with the change S2IX_MISMATCH, S2IX_TOO_MANY_COPIES, S2IX_TOO_MANY_PAIRS. O(n + m log n) for n bytes and pairs and m entries.
+  std::size_t apply(std::string_view journal) {
+    std::size_t given = 0, place = 0, entry = 0;
+    const std::uint32_t status = handle_.edit([&](::s2ix_handle* handle) {
+      return s2ix_apply(handle, detail::bytes(journal), journal.size(), &given, &place, &entry);
+    });
+    detail::check(status, [&](std::uint32_t why) { return where(why, place, entry); });
+    return given;
+  }
+
+  // Makes one change of all that a function does to the index, and returns how many pairs that change has: 0 if it is none. If the function
+  // throws, or the changes can't become one, all that it did is undone and the exception goes on; then it could be redone. In it undo()
+  // takes back no earlier change, and what would drop changes throws std::logic_error: forget(), forget_older(), clear(), and a line with
+  // the word undo or forget. Groups may lie within groups. What other threads do meanwhile is in the group too. Until its end each edit in it
+  // counts as a change, so a full journal may refuse it. If memory is wanted to undo, std::bad_alloc is thrown in place of the exception, and
+  // the first edits may be left. It costs what join() does.
+  template <class Do>
+  std::size_t group(Do edits) {
+    const Grouped grouped(*this);
+    try {
+      edits();
+      return join(done_count() - grouped.first());
+    } catch (...) {
+      while (done_count() > grouped.first()) undo();
+      throw;
+    }
+  }
+
+  // Makes one change of the last ones that can be undone, so many of them, and returns how many pairs it has; if their counts are what they
+  // were before, the changes are gone. What is held stays, and so does what can be redone. O(n + m log n) for m entries. S2IX_CLOSED,
+  // S2IX_TOO_FEW_CHANGES.
+  std::size_t join(std::size_t last) {
+    return edit([&](::s2ix_handle* handle, std::size_t* to) {
+      return is_in_group(handle, last) ? s2ix_join(handle, last, to) : std::uint32_t{S2IX_TOO_FEW_CHANGES};
+    });
+  }
+
   // Takes the last change back, and returns how many pairs it had. S2IX_CLOSED, S2IX_NOTHING_TO_UNDO.
-  std::size_t undo() { return edit(s2ix_undo); }
+  std::size_t undo() {
+    return edit([&](::s2ix_handle* handle, std::size_t* to) {
+      return is_in_group(handle, 1) ? s2ix_undo(handle, to) : std::uint32_t{S2IX_NOTHING_TO_UNDO};
+    });
+  }
 
   // Does the change that was undone last again, and returns how many pairs it had. S2IX_CLOSED, S2IX_NOTHING_TO_REDO.
   std::size_t redo() { return edit(s2ix_redo); }
 
   // Keeps what is held and drops all changes: nothing is left to undo or redo. S2IX_CLOSED.
-  void forget() { detail::check(handle_.edit(s2ix_forget)); }
+  void forget() { detail::check(drop(s2ix_forget)); }
+
+  // Drops all changes that can be undone but the newest, at most so many: a full journal gets room. What is held stays, and so does what
+  // can be redone. S2IX_CLOSED.
+  void forget_older(std::size_t newest) {
+    detail::check(drop([&](::s2ix_handle* handle) { return s2ix_forget_older(handle, newest); }));
+  }
 
   // Drops all pairs and all changes, and keeps the limits: nothing is left to undo or redo. O(n). S2IX_CLOSED.
-  void clear() { detail::check(handle_.edit(s2ix_clear)); }
+  void clear() { detail::check(drop(s2ix_clear)); }
 
   // Lists. Each call has two forms. One puts the list into a vector of the caller and uses its memory again; if it throws, the vector is
   // empty. The other returns a new vector. The cost is that of the list, whatever the capacity of the vector. The library
@@ -355,7 +411,7 @@ class Index {
     return entries;
   }
 
-  // How many faces, 0 to 6, the last accepted edit, undo or redo rebuilt. O(1). S2IX_CLOSED.
+  // On how many faces, 0 to 6, the last accepted edit, undo, redo or apply changed pairs. O(1). S2IX_CLOSED.
   [[nodiscard]] std::size_t faces_rebuilt() const { return number(s2ix_faces_rebuilt); }
 
   // How many ranges of leaves there are over which the same pairs lie: at least 1. O(1). S2IX_CLOSED.
@@ -424,6 +480,7 @@ class Index {
     std::string answer;
     // (the first call has room for the answer of any edit, so that only a long answer needs a second call)
     const std::uint32_t status = handle_.edit([&](::s2ix_handle* handle) {
+      if (line.find("undo") != line.npos || line.find("forget") != line.npos) check_no_group();
       return detail::fill(answer, [&](char* bytes, std::size_t room, std::size_t* number) {
         return s2ix_line(handle, detail::bytes(line), line.size(), reinterpret_cast<std::uint8_t*>(bytes), room, number);
       });
@@ -445,13 +502,61 @@ class Index {
     std::size_t place = 0, entry = 0;
     const std::uint32_t status = call(index.handle(), detail::bytes(dump), dump.size(), detail::bytes(journal), journal.size(), limits.pairs,
                                       limits.copies, limits.changes, &place, &entry);
-    detail::check(status, [&](std::uint32_t why) {
-      Where where;
-      (why == S2IX_NO_DUMP || why == S2IX_NO_JOURNAL ? where.line : where.change) = place;
-      where.entry = entry;
-      return where;
-    });
+    detail::check(status, [&](std::uint32_t why) { return where(why, place, entry); });
     return index;
+  }
+
+  // Where a text is refused: at a line, or at a change and its entry.
+  static Where where(std::uint32_t why, std::size_t place, std::size_t entry) {
+    Where where;
+    (why == S2IX_NO_DUMP || why == S2IX_NO_JOURNAL ? where.line : where.change) = place;
+    where.entry = entry;
+    return where;
+  }
+
+  // A group, which lasts as long as this lives: how many changes could be undone when it began.
+  class Grouped {
+   public:
+    // (under the lock, since calls on other threads read which group there is)
+    explicit Grouped(Index& index) : index_(index) {
+      detail::check(index.handle_.with([&](::s2ix_handle* handle) {
+        const std::uint32_t status = s2ix_done_count(handle, &first_);
+        if (status == S2IX_DONE) around_ = std::exchange(index.group_, first_);
+        return status;
+      }));
+    }
+    Grouped(const Grouped&) = delete;
+    Grouped& operator=(const Grouped&) = delete;
+    ~Grouped() {
+      index_.handle_.with([&](::s2ix_handle*) { index_.group_ = around_; });
+    }
+
+    [[nodiscard]] std::size_t first() const noexcept { return first_; }
+
+   private:
+    Index& index_;
+    std::size_t first_ = 0;
+    std::optional<std::size_t> around_;
+  };
+
+  // Whether the last changes, so many, belong to the group, if there is one.
+  bool is_in_group(::s2ix_handle* handle, std::size_t last) const {
+    std::size_t done = 0;
+    return !group_ || s2ix_done_count(handle, &done) != S2IX_DONE || (*group_ <= done && last <= done - *group_);
+  }
+
+  // Throws in a group.
+  void check_no_group() const {
+    if (group_) throw std::logic_error("s2ix: an index drops no changes in a group");
+  }
+
+  // Makes a call that drops changes.
+  template <class Call>
+  std::uint32_t drop(Call call) {
+    return handle_.edit([&](::s2ix_handle* handle) {
+      check_no_group();
+      return call(handle);
+    });
   }
 
   // What a call writes to the pointer it is given. `wrong` says of which number a refusal speaks.
@@ -533,6 +638,8 @@ class Index {
   }
 
   detail::Handle handle_;
+  // How many changes could be undone when the group began, if there is one.
+  std::optional<std::size_t> group_;
 };
 
 }  // namespace s2ix

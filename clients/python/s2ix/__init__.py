@@ -1,18 +1,40 @@
 """The S2 cell index that can be edited, from Python: `Index` holds labelled cells, and its methods edit, undo and ask.
 
-Cells are S2's 64-bit ids or their tokens. Each refusal is a class under S2ixError. Threads may share an index. `s2ix.cells` and `s2ix.unions`
-ask about cells without an index. `python3 -m s2ix` shows a session.
+Cells are S2's 64-bit ids or their tokens. Each refusal is a class under S2ixError. Threads may share an index. `s2ix.cells` and
+`s2ix.unions` ask about cells without an index, and `s2ix.degrees` finds the leaf of a point. `Durable` is an index in a file. `python3 -m
+s2ix` shows a session.
 """
-from . import cells, unions
-from .index import Entry, Index, Range, Row
-from .refusals import (
-    BelowZero, Closed, Coarser, JournalFull, Mismatch, NoCell, NoChange, NoDump, NoJournal, NoLabel, NoLimits, NoRange, NoRoom, NoSpan, NoSuchChange,
-    NoSuchLabel, NotHeld, NothingToRedo, NothingToUndo, OutOfMemory, S2ixError, TooFine, TooManyCopies, TooManyPairs,
+from __future__ import annotations
+
+from typing import TYPE_CHECKING, Any
+
+from s2ix import cells, degrees, unions
+from s2ix.index import Index
+from s2ix.refusals import (
+    BelowZero, Closed, Coarser, JournalFull, Mismatch, NoCell, NoChange, NoDump, NoJournal, NoLabel, NoLimits, NoRange, NoRoom, NoSpan,
+    NoSuchChange, NoSuchLabel, NotHeld, NothingToRedo, NothingToUndo, OutOfMemory, S2ixError, TooFewChanges, TooFine, TooManyCopies,
+    TooManyPairs,
 )
-from .tokens import Cell, cell_of, is_cell, token_of
+from s2ix.rows import Entry, Range, Row
+from s2ix.tokens import Cell, cell_of, is_cell, token_of
+
+if TYPE_CHECKING:
+    from s2ix.durable import Durable, Logged, NotKept, Spoilt
+
+__version__ = "1.1.0"
 
 __all__ = [
-    "BelowZero", "Cell", "Closed", "Coarser", "Entry", "Index", "JournalFull", "Mismatch", "NoCell", "NoChange", "NoDump", "NoJournal",
-    "NoLabel", "NoLimits", "NoRange", "NoRoom", "NoSpan", "NoSuchChange", "NoSuchLabel", "NotHeld", "NothingToRedo", "NothingToUndo",
-    "OutOfMemory", "Range", "Row", "S2ixError", "TooFine", "TooManyCopies", "TooManyPairs", "cell_of", "cells", "is_cell", "token_of", "unions",
+    "BelowZero", "Cell", "Closed", "Coarser", "Durable", "Entry", "Index", "JournalFull", "Logged", "Mismatch", "NoCell", "NoChange",
+    "NoDump", "NoJournal", "NoLabel", "NoLimits", "NoRange", "NoRoom", "NoSpan", "NoSuchChange", "NoSuchLabel", "NotHeld", "NotKept",
+    "NothingToRedo", "NothingToUndo", "OutOfMemory", "Range", "Row", "S2ixError", "Spoilt", "TooFewChanges", "TooFine", "TooManyCopies",
+    "TooManyPairs", "cell_of", "cells", "degrees", "is_cell", "token_of", "unions",
 ]
+
+
+def __getattr__(name: str) -> Any:
+    """What is of `s2ix.durable`, which needs sqlite3: it is imported when it is first asked for."""
+    if name in ("Durable", "Logged", "NotKept", "Spoilt"):
+        from s2ix import durable
+
+        return getattr(durable, name)
+    raise AttributeError(f"module {__name__!r} has no attribute {name!r}")

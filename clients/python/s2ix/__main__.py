@@ -1,5 +1,5 @@
 """Shows a short session: each line as it would be typed, and what it answers."""
-from . import Index, S2ixError, token_of
+from s2ix import Index, S2ixError, token_of
 
 SESSION = """
 index.add_union(["04", "0c"], 9)

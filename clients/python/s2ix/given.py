@@ -8,8 +8,8 @@ from array import array
 from itertools import chain, starmap
 from typing import Any, Iterable, Optional, Union
 
-from .refusals import NoCell, NoLabel, S2ixError, TooManyCopies, named, placed
-from .tokens import Cell, cell_of, is_cell, no_cell
+from s2ix.refusals import NoCell, NoLabel, S2ixError, TooManyCopies, named, placed
+from s2ix.tokens import Cell, cell_of, is_cell, no_cell
 
 #: A text: what it says, or its bytes.
 Text = Union[str, bytes, bytearray, memoryview]
@@ -39,7 +39,8 @@ def bytes_of(text: Text) -> bytes:
 
 
 def cells_in(cells: Cells, after: int = 0) -> tuple[int, int, object]:
-    """Where cells lie, how many there are, and what keeps them there. `after` cells come before these, and a refusal's place counts them too."""
+    """Where cells lie, how many there are, and what keeps them there. `after` cells come before these, and a refusal's place counts them
+    too."""
     words: Any = cells
     if cells.__class__ is int and 0 <= cells <= MOST_U64:  # type: ignore[operator]
         words = array("Q", (cells,))
@@ -101,8 +102,8 @@ def _number_at(place: int, cell: Cell) -> int:
 
 
 def wrong_cell(*lists: tuple[int, int]) -> S2ixError:
-    """The refusal of the first number in some lists that is no cell's. Each list is an address and a length; places count on from one to the
-    next."""
+    """The refusal of the first number in some lists that is no cell's. Each list is an address and a length; places count on from one to
+    the next."""
     numbers = chain.from_iterable((ctypes.c_uint64 * many).from_address(start) for start, many in lists)
     for place, number in enumerate(numbers):
         if not is_cell(number):

@@ -42,10 +42,12 @@ class Square(ctypes.Structure):
 #: What each call takes. All answer a status but those of ANSWERS.
 CALLS = {
     "s2ix_status_text": [u32, address, size, address],
+    "s2ix_version": [address, size, address],
     "s2ix_open": [address, u32, u32, u32],
     "s2ix_load": [address, address, size, u32, u32, u32, address],
     "s2ix_replay": [address, address, size, address, size, u32, u32, u32, address, address],
     "s2ix_rewind": [address, address, size, address, size, u32, u32, u32, address, address],
+    "s2ix_resume": [address, address, size, address, size, u32, u32, u32, address, address],
     "s2ix_copy": [address, address],
     "s2ix_close": [address],
     "s2ix_add": [address, u64, u32, u32, address],
@@ -59,7 +61,10 @@ CALLS = {
     "s2ix_revert": [address, u32, address],
     "s2ix_undo": [address, address],
     "s2ix_redo": [address, address],
+    "s2ix_apply": [address, address, size, address, address, address],
+    "s2ix_join": [address, size, address],
     "s2ix_forget": [address],
+    "s2ix_forget_older": [address, size],
     "s2ix_clear": [address],
     "s2ix_at": [address, u64, address, size, address],
     "s2ix_meet": [address, address, size, address, size, address],
@@ -156,15 +161,16 @@ def of_a_handle() -> Any:
 
 @functools.lru_cache(maxsize=None)
 def has_gil() -> bool:
-    """Whether this Python always has a GIL. A Python that was built to run without one may still switch it on, as it does for some imports."""
+    """Whether this Python always has a GIL. A Python that was built to run without one may still switch it on, as it does for some
+    imports."""
     return not sysconfig.get_config_var("Py_GIL_DISABLED")
 
 
 class InTurn:
     """The calls of the library for one handle, where there may be no GIL: each waits until no other runs.
 
-    A signal handler or a finalizer may run on a thread that has the lock, just before or after a call. It may call too, since a thread that has
-    the lock may take it again."""
+    A signal handler or a finalizer may run on a thread that has the lock, just before or after a call. It may call too, since a thread that
+    has the lock may take it again."""
 
     def __init__(self, library: ctypes.PyDLL) -> None:
         self._library, self._lock = library, threading.RLock()

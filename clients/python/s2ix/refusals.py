@@ -8,8 +8,16 @@ from typing import Optional
 class S2ixError(Exception):
     """What each refusal of the index is. `status` is its number in C. `change` is the number of the refused change of a journal, or 0.
 
-    `value` is the refused number or token, and `place` its place in the list that was passed, counted from 0. NoCell has a value if a number or
-    token is no cell's, and so has each refusal of a row. Without a value or a list they are None."""
+    `value` is the refused number or token, and `place` its place in the list that was passed, counted from 0. NoCell has a value if a
+    number or token is no cell's, and so has each refusal of a row. Without a value or a list they are None.
+
+    >>> from s2ix import NoCell, unions
+    >>> try:
+    ...     unions.normalise(["04", 2])
+    ... except NoCell as refusal:
+    ...     print(refusal, refusal.value, refusal.place, refusal.status)
+    place 1: 0x2 is no number of a cell 2 1 3
+    """
 
     status = 0
     change = 0
@@ -80,12 +88,26 @@ TooManyPairs = _refusal(24, "TooManyPairs", "the number of pairs would pass the 
 Coarser = _refusal(25, "Coarser", "the level is coarser than the cell's")
 NoSpan = _refusal(26, "NoSpan", "the bounds are no span of leaves")
 NoRange = _refusal(27, "NoRange", "no range is at the place")
+TooFewChanges = _refusal(30, "TooFewChanges", "fewer changes can be undone")
 
 
 def expect(status: int) -> None:
     """Raises the class of a status, unless that is 0."""
     if status:
         raise REFUSALS.get(status, S2ixError)()
+
+
+def expect_at(status: int, place: int, entry: int) -> None:
+    """The same for a call of texts: the place is that of the faulty line, or of the refused change, which has the entry."""
+    if status in (NoDump.status, NoJournal.status):
+        raise REFUSALS[status](place)
+    if status == Mismatch.status:
+        raise Mismatch(place, entry)
+    try:
+        expect(status)
+    except S2ixError as refusal:
+        refusal.change = place
+        raise
 
 
 def named(refusal: type[S2ixError], words: str, value: object) -> S2ixError:

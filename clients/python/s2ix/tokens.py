@@ -5,7 +5,7 @@ import operator
 import re
 from typing import Union
 
-from .refusals import NoCell, S2ixError, named
+from s2ix.refusals import NoCell, S2ixError, named
 
 #: A cell: its number, or a token that spells it.
 Cell = Union[int, str]
@@ -16,7 +16,12 @@ _LOWEST_BITS = 0x1555555555555555
 
 
 def is_cell(number: int) -> bool:
-    """Whether a number is a cell's: its face is 0 to 5, and its lowest bit marks a level from 0 to 30."""
+    """Whether a number is a cell's: its face is 0 to 5, and its lowest bit marks a level from 0 to 30. What is no whole number is a
+    TypeError.
+
+    >>> is_cell(0x1C00000000000000), is_cell(2)
+    (True, False)
+    """
     number = operator.index(number)
     return 0 < number < 6 << 61 and (number & -number) & _LOWEST_BITS != 0
 

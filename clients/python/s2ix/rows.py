@@ -1,0 +1,78 @@
+"""What an index lists, and how it is read from the memory that a call wrote it to."""
+from __future__ import annotations
+
+import functools
+import struct
+from array import array
+from typing import Callable, NamedTuple
+
+from s2ix import library
+
+# How many bytes a packed row has, a packed entry, a cell and a label.
+PACKED, ENTRY, WORD, HALF = 16, 24, 8, 4
+
+
+class Row(NamedTuple):
+    """A pair of a cell and a label that is held, with its count."""
+
+    cell: int
+    label: int
+    count: int  # type: ignore[assignment]
+
+
+class Entry(NamedTuple):
+    """A pair in a change, with its count before and after; 0 is the count of a pair that is not held."""
+
+    cell: int
+    label: int
+    before: int
+    after: int
+
+
+class Range(NamedTuple):
+    """Neighbouring leaves over which the same pairs lie: the range's place, counted from 0, the number of its first leaf, the first leaf
+    number after it, and whether no pair lies over it."""
+
+    place: int
+    start: int
+    limit: int
+    is_empty: bool
+
+
+row_in, _rows_in = struct.Struct("=QII").unpack_from, struct.Struct("=QII").iter_unpack
+new_row: Callable[[type[Row], tuple[int, ...]], Row] = tuple.__new__
+_row_of: Callable[[tuple[int, ...]], Row] = functools.partial(new_row, Row)
+_entries_in = struct.Struct("=QIII4x").iter_unpack
+
+
+def rows_of(packed: memoryview) -> list[Row]:
+    """Packed rows as tuples with names."""
+    return list(map(_row_of, _rows_in(packed)))
+
+
+def view_of(rows: memoryview) -> memoryview:
+    """A copy of packed rows, whose items are rows."""
+    return memoryview((library.PackedRow * (len(rows) // PACKED)).from_buffer_copy(rows))
+
+
+def entries_of(packed: memoryview) -> list[Entry]:
+    return list(map(Entry._make, _entries_in(packed)))
+
+
+def labels_of(packed: memoryview) -> list[int]:
+    return packed.cast("I").tolist()
+
+
+def numbers_of(packed: memoryview) -> list[int]:
+    return packed.cast("Q").tolist()
+
+
+def words_of(packed: memoryview) -> memoryview:
+    """A copy of packed cells, whose items are numbers."""
+    words = array("Q")
+    words.frombytes(packed)
+    return memoryview(words)
+
+
+def text_of(packed: memoryview) -> str:
+    return str(packed, "ascii")
