@@ -159,6 +159,27 @@ def loaded(text, most_pairs, most_copies):
     return b"no %s %d\n" % (fault[0].encode(), fault[1]) if fault else b""
 
 
+def compared(first, second):
+    """What `diff` prints of two texts."""
+    held = []
+    for text, before in ((first, b""), (second, b"second ")):
+        pairs, fault = read_dump(text)
+        if fault:
+            return b"no %s%s %d\n" % (before, fault[0].encode(), fault[1])
+        held.append(dict(pairs))
+    old, new = held
+    changed = [(pair, old.get(pair, 0), new.get(pair, 0)) for pair in sorted({*old, *new}) if old.get(pair, 0) != new.get(pair, 0)]
+    lines = [b"%s %d %d %d\n" % (token_of(cell).encode(), label, before, after) for (cell, label), before, after in changed]
+    group = b"change %d\n%s" % (len(lines), b"".join(lines)) if lines else b""
+    return b"s2ix-journal 2\n%send %d\n" % (group, bool(lines))
+
+
+def resumed(dump, journal):
+    """What a run that goes on from a dump and the journal that led to it prints of them, where its script is empty."""
+    told = moved(dump, journal, True)
+    return told if told.startswith(b"no ") else b""
+
+
 def moved(dump, journal, is_back):
     """What `replay` prints of two texts, or `rewind` where it goes back."""
     pairs, fault = read_dump(dump)

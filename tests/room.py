@@ -39,7 +39,7 @@ class Room:
             given.write(script)
             given.seek(0)
             ran = subprocess.run(
-                [PROGRAM, *words], stdin=given, stdout=output, stderr=subprocess.PIPE, env=shim, cwd=self.path, timeout=120, preexec_fn=limit
+                [PROGRAM, *words], stdin=given, stdout=output, stderr=subprocess.PIPE, env=shim, cwd=self.path, timeout=600, preexec_fn=limit
             )
         with open(counts, encoding="ascii") as file:
             counted = [int(word) for word in file.read().split()]

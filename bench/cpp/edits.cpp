@@ -85,6 +85,15 @@ class Store {
 
   void AddAll(const std::vector<s2ix_row>& rows) { Expect(s2ix_add_all(&handle_, rows.data(), rows.size(), &number_), "add_all"); }
 
+  // The text that a call gives.
+  std::string Text(decltype(s2ix_dump)* call) {
+    uint8_t none;
+    if (call(&handle_, &none, 0, &number_) != S2IX_NO_ROOM) Expect(S2IX_NO_ROOM, "text");
+    std::string text(number_, '\0');
+    Expect(call(&handle_, reinterpret_cast<uint8_t*>(text.data()), text.size(), &number_), "text");
+    return text;
+  }
+
   // What points take, each, over some leaves.
   double Points(const std::vector<uint64_t>& leaves) {
     std::vector<s2ix_row> rows(1000000);
@@ -231,6 +240,33 @@ void TimeChanges(Store& store, const std::vector<s2ix_row>& rows, const std::vec
   PrintMean("a point after " + std::to_string(changes) + " edits", store.Points(leaves));
 }
 
+// A dump, and the journal of as many changes after it as a store may have: replayed, and resumed with their undo. Then the last changes are
+// joined, two by two.
+void TimeJournals(Store& store, const std::vector<s2ix_row>& rows) {
+  const std::string dump = store.Text(s2ix_dump);
+  std::mt19937_64 random(19);
+  for (size_t k = 0; k < kMostChanges; k += 2) {
+    const s2ix_row& row = rows[random() % rows.size()];
+    store.Remove(row.cell, row.label);
+    store.Add(row.cell, row.label);
+  }
+  const std::string journal = store.Text(s2ix_journal);
+  auto bytes = [](const std::string& text) { return reinterpret_cast<const uint8_t*>(text.data()); };
+  auto time = [&](const std::string& name, decltype(s2ix_replay)* call) {
+    Store led;
+    size_t place = 0, entry = 0;
+    double start = Nanoseconds();
+    Expect(call(led.get(), bytes(dump), dump.size(), bytes(journal), journal.size(), kMostPairs, kMostCopies, kMostChanges, &place, &entry), "journal");
+    PrintMean(name, (Nanoseconds() - start) / kMostChanges);
+  };
+  time("a dump and 100,000 changes replayed, a change", s2ix_replay);
+  time("the same resumed, a change", s2ix_resume);
+  Timed joins;
+  for (size_t k = 0; k < kTurns / 4; ++k) joins.Run([&] { Expect(s2ix_join(store.get(), 2, &store.number_), "join"); });
+  store.Forget();
+  joins.Print("a join of two changes");
+}
+
 // Pairs that an index in parts may find hard.
 void TimeHardPlaces(size_t pairs) {
   std::mt19937_64 random(13);
@@ -273,6 +309,7 @@ int main(int count, char** words) {
   TimeCopies(store, rows);
   TimeReaders(store, rows, scene.leaves);
   TimeChanges(store, rows, scene.leaves, std::strtoul(words[2], nullptr, 10));
+  TimeJournals(store, rows);
   TimeHardPlaces(rows.size());
   return 0;
 }

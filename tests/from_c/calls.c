@@ -62,6 +62,9 @@ static void refused_while_closed(void) {
     EXPECT(s2ix_undo(&handle, &number), S2IX_CLOSED);
     EXPECT(s2ix_redo(&handle, &number), S2IX_CLOSED);
     EXPECT(s2ix_forget(&handle), S2IX_CLOSED);
+    EXPECT(s2ix_forget_older(&handle, 1), S2IX_CLOSED);
+    EXPECT(s2ix_join(&handle, 0, &number), S2IX_CLOSED);
+    EXPECT(number, 0);
     EXPECT(s2ix_clear(&handle), S2IX_CLOSED);
     number = 7;
     EXPECT(s2ix_at(&handle, leaf, &row, 1, &number), S2IX_CLOSED);
@@ -414,6 +417,11 @@ static void told(void) {
     EXPECT(number, 40);
     EXPECT(s2ix_status_text(10, text, sizeof text, &number), S2IX_DONE);
     EXPECT(memcmp(text, "no status", number), 0);
+    EXPECT(s2ix_version(text, 2, &number), S2IX_NO_ROOM);
+    EXPECT(number, strlen(S2IX_VERSION));
+    EXPECT(s2ix_version(text, sizeof text, &number), S2IX_DONE);
+    EXPECT(number, strlen(S2IX_VERSION));
+    EXPECT(memcmp(text, S2IX_VERSION, number), 0);
 }
 
 static void copied(void) {
@@ -633,6 +641,138 @@ static void replayed(void) {
 #undef JOURNAL
 }
 
+static void resumed(void) {
+#define DUMP "s2ix 2\n04 9 3\n1 3 1\nend 2 4\n"
+#define JOURNAL "s2ix-journal 2\nchange 1\n04 9 2 3\nchange 1\n1 3 0 1\nend 2\n"
+    s2ix_handle handle = {0};
+    size_t number, place = 7, entry = 7;
+    uint8_t text[80];
+    uint32_t count;
+    EXPECT(s2ix_resume(&handle, TEXT(DUMP), TEXT(JOURNAL), 10, 10, 0, &place, &entry), S2IX_NO_LIMITS);
+    EXPECT(place + entry, 0);
+    EXPECT(handle.is_open, false);
+    EXPECT(s2ix_resume(&handle, TEXT(DUMP), TEXT(JOURNAL), 10, 10, 2, &place, &entry), S2IX_DONE);
+    EXPECT(place + entry, 0);
+    EXPECT(s2ix_dump(&handle, text, sizeof text, &number), S2IX_DONE);
+    EXPECT(number == sizeof DUMP - 1 && memcmp(text, DUMP, number) == 0, true);
+    EXPECT(s2ix_journal(&handle, text, sizeof text, &number), S2IX_DONE);
+    EXPECT(number == sizeof JOURNAL - 1 && memcmp(text, JOURNAL, number) == 0, true);
+    EXPECT(s2ix_add(&handle, first, 9, 1, &number), S2IX_JOURNAL_FULL);
+    EXPECT(s2ix_undo(&handle, &number), S2IX_DONE);
+    EXPECT(s2ix_undo(&handle, &number), S2IX_DONE);
+    EXPECT(s2ix_undo(&handle, &number), S2IX_NOTHING_TO_UNDO);
+    EXPECT(s2ix_count(&handle, first, 9, &count), S2IX_DONE);
+    EXPECT(count, 2);
+    EXPECT(s2ix_resume(&handle, TEXT("s2ix 2\n"), TEXT(""), 10, 10, 10, &place, &entry), S2IX_NO_DUMP);
+    EXPECT(place == 2 && entry == 0, true);
+    EXPECT(s2ix_resume(&handle, TEXT(DUMP), TEXT(DUMP), 10, 10, 10, &place, &entry), S2IX_NO_JOURNAL);
+    EXPECT(place == 1 && entry == 0, true);
+    EXPECT(s2ix_resume(&handle, TEXT(DUMP), TEXT(JOURNAL), 10, 10, 1, &place, &entry), S2IX_NO_JOURNAL);
+    EXPECT(place == 4 && entry == 0, true);
+    /* (the last change is taken back first, and the first one has another count after it) */
+    EXPECT(s2ix_resume(&handle, TEXT(DUMP), TEXT("s2ix-journal 2\nchange 1\n04 9 1 2\nchange 1\n1 3 0 1\nend 2\n"), 10, 10, 10, &place, &entry),
+           S2IX_MISMATCH);
+    EXPECT(place == 1 && entry == 1, true);
+    EXPECT(s2ix_resume(&handle, TEXT(DUMP), TEXT("s2ix-journal 2\nchange 1\n0c 7 1 0\nend 1\n"), 2, 10, 10, &place, &entry), S2IX_TOO_MANY_PAIRS);
+    EXPECT(place == 1 && entry == 0, true);
+    EXPECT(s2ix_undone_count(&handle, &number), S2IX_DONE);
+    EXPECT(number, 2);
+    s2ix_close(&handle);
+#undef DUMP
+#undef JOURNAL
+}
+
+static void applied(void) {
+#define JOURNAL "s2ix-journal 2\nchange 1\n04 9 2 3\nchange 2\n04 9 3 2\n1 3 0 1\nend 2\n"
+    s2ix_handle handle = {0};
+    size_t number = 7, place = 7, entry = 7;
+    uint32_t count;
+    EXPECT(s2ix_apply(&handle, TEXT(""), &number, &place, &entry), S2IX_CLOSED);
+    EXPECT(number + place + entry, 0);
+    EXPECT(s2ix_open(&handle, 2, 3, 3), S2IX_DONE);
+    EXPECT(s2ix_apply(&handle, TEXT(JOURNAL), &number, &place, &entry), S2IX_MISMATCH);
+    EXPECT(number == 0 && place == 1 && entry == 1, true);
+    EXPECT(s2ix_add(&handle, first, 9, 2, &number), S2IX_DONE);
+    EXPECT(s2ix_add(&handle, first, 9, 1, &number), S2IX_DONE);
+    EXPECT(s2ix_undo(&handle, &number), S2IX_DONE);
+    EXPECT(s2ix_apply(&handle, TEXT("s2ix-journal 2\nend 0\n"), &number, &place, &entry), S2IX_DONE);
+    EXPECT(number, 0);
+    EXPECT(s2ix_undone_count(&handle, &number), S2IX_DONE);
+    EXPECT(number, 1);
+    EXPECT(s2ix_apply(&handle, TEXT("s2ix-journal 2\nchange 1\n04 9 2 4\nend 1\n"), &number, &place, &entry), S2IX_NO_JOURNAL);
+    EXPECT(number == 0 && place == 3 && entry == 0, true);
+    EXPECT(s2ix_apply(&handle, TEXT("s2ix-journal 2\nchange 2\n0c 8 0 1\n0c 9 0 1\nend 1\n"), &number, &place, &entry), S2IX_TOO_MANY_PAIRS);
+    EXPECT(number == 0 && place == 1 && entry == 0, true);
+    EXPECT(s2ix_apply(&handle, TEXT(JOURNAL), &number, &place, &entry), S2IX_DONE);
+    EXPECT(number == 1 && place == 0 && entry == 0, true);
+    EXPECT(s2ix_done_count(&handle, &number), S2IX_DONE);
+    EXPECT(number, 3);
+    EXPECT(s2ix_undone_count(&handle, &number), S2IX_DONE);
+    EXPECT(number, 0);
+    EXPECT(s2ix_apply(&handle, TEXT("s2ix-journal 2\nchange 1\n04 9 7 6\nend 1\n"), &number, &place, &entry), S2IX_NO_JOURNAL);
+    EXPECT(s2ix_apply(&handle, TEXT("s2ix-journal 2\nchange 1\n04 9 1 2\nend 1\n"), &number, &place, &entry), S2IX_JOURNAL_FULL);
+    EXPECT(number + place + entry, 0);
+    EXPECT(s2ix_undo(&handle, &number), S2IX_DONE);
+    EXPECT(number, 2);
+    EXPECT(s2ix_count(&handle, first, 9, &count), S2IX_DONE);
+    EXPECT(count, 3);
+    s2ix_close(&handle);
+#undef JOURNAL
+}
+
+/* Changes that are joined, and older ones that are forgotten. */
+static void joined(void) {
+    s2ix_handle handle = {0};
+    size_t number = 7;
+    uint32_t count;
+    s2ix_entry entries[3];
+    EXPECT(s2ix_open(&handle, 10, 10, 10), S2IX_DONE);
+    EXPECT(s2ix_join(&handle, 1, &number), S2IX_TOO_FEW_CHANGES);
+    EXPECT(number, 0);
+    EXPECT(s2ix_join(&handle, 0, &number), S2IX_DONE);
+    EXPECT(s2ix_add(&handle, face, 3, 1, &number), S2IX_DONE);
+    EXPECT(s2ix_add(&handle, first, 9, 2, &number), S2IX_DONE);
+    EXPECT(s2ix_add(&handle, second, 9, 1, &number), S2IX_DONE);
+    EXPECT(s2ix_remove(&handle, second, 9, 1, &number), S2IX_DONE);
+    EXPECT(s2ix_add(&handle, first, 9, 1, &number), S2IX_DONE);
+    EXPECT(s2ix_add(&handle, second, 4, 1, &number), S2IX_DONE);
+    EXPECT(s2ix_undo(&handle, &number), S2IX_DONE);
+    EXPECT(s2ix_join(&handle, 6, &number), S2IX_TOO_FEW_CHANGES);
+    EXPECT(s2ix_join(&handle, 4, &number), S2IX_DONE);
+    EXPECT(number, 1);
+    EXPECT(s2ix_done_count(&handle, &number), S2IX_DONE);
+    EXPECT(number, 2);
+    EXPECT(s2ix_change(&handle, 2, entries, 3, &number), S2IX_DONE);
+    EXPECT(number == 1 && entries[0].cell == first && entries[0].before == 0 && entries[0].after == 3, true);
+    EXPECT(s2ix_redo(&handle, &number), S2IX_DONE);
+    EXPECT(s2ix_undo(&handle, &number), S2IX_DONE);
+    EXPECT(s2ix_undo(&handle, &number), S2IX_DONE);
+    EXPECT(s2ix_count(&handle, first, 9, &count), S2IX_DONE);
+    EXPECT(count, 0);
+    EXPECT(s2ix_redo(&handle, &number), S2IX_DONE);
+    EXPECT(s2ix_remove(&handle, first, 9, 3, &number), S2IX_DONE);
+    EXPECT(s2ix_join(&handle, 2, &number), S2IX_DONE);
+    EXPECT(number, 0);
+    EXPECT(s2ix_done_count(&handle, &number), S2IX_DONE);
+    EXPECT(number, 1);
+    EXPECT(s2ix_add(&handle, first, 9, 1, &number), S2IX_DONE);
+    EXPECT(s2ix_add(&handle, second, 9, 1, &number), S2IX_DONE);
+    EXPECT(s2ix_undo(&handle, &number), S2IX_DONE);
+    EXPECT(s2ix_forget_older(&handle, 9), S2IX_DONE);
+    EXPECT(s2ix_done_count(&handle, &number), S2IX_DONE);
+    EXPECT(number, 2);
+    EXPECT(s2ix_forget_older(&handle, 1), S2IX_DONE);
+    EXPECT(s2ix_done_count(&handle, &number), S2IX_DONE);
+    EXPECT(number, 1);
+    EXPECT(s2ix_redo(&handle, &number), S2IX_DONE);
+    EXPECT(s2ix_undo(&handle, &number), S2IX_DONE);
+    EXPECT(s2ix_undo(&handle, &number), S2IX_DONE);
+    EXPECT(s2ix_undo(&handle, &number), S2IX_NOTHING_TO_UNDO);
+    EXPECT(s2ix_count(&handle, face, 3, &count), S2IX_DONE);
+    EXPECT(count, 1);
+    s2ix_close(&handle);
+}
+
 static void exported(void) {
     static const char wanted[] = "{\"pairs\":[[\"04\",9,2]],\"version\":1}";
     const size_t len = sizeof wanted - 1;
@@ -696,6 +836,9 @@ int main(void) {
     journalled();
     changed();
     replayed();
+    resumed();
+    applied();
+    joined();
     exported();
     found();
     EXPECT(blocks_held(), 0);

@@ -50,6 +50,14 @@ static uint32_t rewinds(s2ix_handle *from, s2ix_handle *to) {
     size_t place, entry;
     return (void)from, s2ix_rewind(to, TEXT(dump), TEXT(up_to), 9, 9, 9, &place, &entry);
 }
+static uint32_t resumes(s2ix_handle *from, s2ix_handle *to) {
+    size_t place, entry;
+    return (void)from, s2ix_resume(to, TEXT(dump), TEXT(up_to), 9, 9, 9, &place, &entry);
+}
+static uint32_t resumes_none(s2ix_handle *from, s2ix_handle *to) {
+    size_t place, entry;
+    return (void)from, s2ix_resume(to, TEXT(dump), TEXT(onwards), 9, 9, 9, &place, &entry);
+}
 static uint32_t loads_none(s2ix_handle *from, s2ix_handle *to) {
     size_t line;
     return (void)from, s2ix_load(to, TEXT(no_dump), 9, 9, 9, &line);
@@ -67,6 +75,7 @@ static const struct {
     {"open", opens, S2IX_DONE},          {"copy", copies, S2IX_DONE},           {"load", loads, S2IX_DONE},
     {"replay", replays, S2IX_DONE},      {"rewind", rewinds, S2IX_DONE},        {"load of no dump", loads_none, S2IX_NO_DUMP},
     {"replay of no journal", replays_none, S2IX_NO_JOURNAL},
+    {"resume", resumes, S2IX_DONE},      {"resume of a mismatch", resumes_none, S2IX_MISMATCH},
 };
 
 /* A closed handle is opened, and again over the same store and over another; then it is closed. */

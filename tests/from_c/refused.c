@@ -67,6 +67,21 @@ CALL(rewinds) {
     told->cells[0] = entry;
     return (void)handle, status;
 }
+CALL(resumes) {
+    size_t entry = 1;
+    uint32_t status = s2ix_resume(other, TEXT(dump), TEXT(up_to), 9, 9, 9, &told->number, &entry);
+    told->cells[0] = entry;
+    return (void)handle, status;
+}
+/* (the second change is on another face than the first) */
+CALL(applies) {
+    static const char two_changes[] = "s2ix-journal 2\nchange 2\n04 7 1 3\n1c 7 0 1\nchange 1\n3 9 0 1\nend 2\n";
+    size_t place = 1, entry = 1;
+    uint32_t status = s2ix_apply(handle, TEXT(two_changes), &told->number, &place, &entry);
+    told->cells[0] = place + entry;
+    return (void)other, status;
+}
+CALL(joins) { return (void)other, s2ix_join(handle, 2, &told->number); }
 CALL(copies) { return (void)told, s2ix_copy(handle, other); }
 CALL(adds) { return (void)other, s2ix_add(handle, face, 1, 1, &told->number); }
 CALL(adds_all) { return (void)other, s2ix_add_all(handle, rows, 3, &told->number); }
@@ -149,6 +164,13 @@ CALL(previous_full) { return (void)other, s2ix_previous_full(handle, 2, &told->n
 CALL(finds) { return (void)other, s2ix_find(handle, leaf, &told->number, told->cells, told->cells + 1); }
 CALL(counts) { return (void)other, s2ix_count(handle, first, 7, told->labels); }
 CALL(forgets) { return (void)other, (void)told, s2ix_forget(handle); }
+CALL(forgets_older) { return (void)other, (void)told, s2ix_forget_older(handle, 1); }
+CALL(joins_too_many) { return (void)other, due(s2ix_join(handle, 3, &told->number), S2IX_TOO_FEW_CHANGES); }
+CALL(applies_to_closed) {
+    s2ix_handle closed = {0};
+    size_t place = 7, entry = 7;
+    return (void)handle, (void)other, due(s2ix_apply(&closed, TEXT(onwards), &told->number, &place, &entry), S2IX_CLOSED);
+}
 /* Nothing is asked for: an empty list of cells, a label that isn't held, equal bounds, no room for a page. */
 CALL(asks_for_nothing) {
     bool answer = true;
@@ -199,6 +221,9 @@ static const struct {
     {"load", loads, true},
     {"replay", replays, true},
     {"rewind", rewinds, true},
+    {"resume", resumes, true},
+    {"apply", applies, true},
+    {"join", joins, true},
     {"copy", copies, true},
     {"add", adds, true},
     {"add_all", adds_all, true},
@@ -254,6 +279,9 @@ static const struct {
     {"find", finds, false},
     {"count", counts, false},
     {"forget", forgets, false},
+    {"forget_older", forgets_older, false},
+    {"join of too many", joins_too_many, false},
+    {"apply to a closed handle", applies_to_closed, false},
     {"close", closes_other, false},
 }, of_empty[] = {
     /* The handle's store is empty. */

@@ -81,6 +81,10 @@ void Closed() {
   REFUSED(S2IX_CLOSED, index.undo());
   REFUSED(S2IX_CLOSED, index.redo());
   REFUSED(S2IX_CLOSED, index.forget());
+  REFUSED(S2IX_CLOSED, index.forget_older(1));
+  REFUSED(S2IX_CLOSED, index.apply("s2ix-journal 2\nend 0\n"));
+  REFUSED(S2IX_CLOSED, index.join(0));
+  REFUSED(S2IX_CLOSED, index.group([] {}));
   REFUSED(S2IX_CLOSED, index.clear());
   REFUSED(S2IX_CLOSED, index.at(kLeaf));
   REFUSED(S2IX_CLOSED, index.at(kLeaf, rows));
@@ -271,6 +275,97 @@ void ChangedAndReplayed() {
   REFUSED(S2IX_NO_LIMITS, s2ix::Index::rewind(dump, journal, s2ix::Limits{0, 1, 1}));
 }
 
+void ResumedAndApplied() {
+  s2ix::Index index;
+  index.add_union({kSecond, kFirst}, 9);
+  const std::string start = index.dump();
+  index.forget();
+  index.add(kFirst, 9, 2);
+  index.add(kFace, 3);
+  const std::string dump = index.dump(), journal = index.journal();
+  s2ix::Index again = s2ix::Index::resume(dump, journal);
+  EXPECT(again.dump() == dump && again.journal() == journal && again.revert(1) == 1 && again.undo() == 1);
+  EXPECT(again.undo() == 1 && again.undo() == 1 && again.dump() == start);
+  const s2ix::Error mismatch = Thrown([&] { (void)s2ix::Index::resume(start, journal); });
+  EXPECT(mismatch.status() == S2IX_MISMATCH && mismatch.change() == 2 && mismatch.entry() == 1);
+  const s2ix::Error many = Thrown([&] { (void)s2ix::Index::resume(dump, journal, s2ix::Limits{9, 9, 1}); });
+  EXPECT(many.status() == S2IX_NO_JOURNAL && many.line() == 4);
+  REFUSED(S2IX_NO_LIMITS, s2ix::Index::resume(dump, journal, s2ix::Limits{9, 9, 0}));
+
+  s2ix::Index follower = s2ix::Index::load(start, s2ix::Limits{3, 3, 3});
+  EXPECT(follower.apply(journal) == 2 && follower.dump() == dump && follower.journal() == journal);
+  EXPECT(follower.apply("s2ix-journal 2\nend 0\n") == 0 && follower.done_count() == 2);
+  const s2ix::Error full = Thrown([&] { follower.apply(journal); });
+  EXPECT(full.status() == S2IX_JOURNAL_FULL && full.change() == 0);
+  follower.forget_older(1);
+  EXPECT(follower.done_count() == 1 && follower.dump() == dump);
+  const s2ix::Error twice = Thrown([&] { follower.apply(journal); });
+  EXPECT(twice.status() == S2IX_MISMATCH && twice.change() == 1 && twice.entry() == 1);
+  const s2ix::Error no_journal = Thrown([&] { follower.apply(dump); });
+  EXPECT(no_journal.status() == S2IX_NO_JOURNAL && no_journal.line() == 1);
+  EXPECT(follower.undo() == 1 && follower.undone_count() == 1);
+  REFUSED(S2IX_NOTHING_TO_UNDO, follower.undo());
+}
+
+// Whether a call is refused as a mistake of the program.
+template <class Call>
+bool IsMistake(Call call) {
+  try {
+    call();
+  } catch (const std::logic_error&) {
+    return true;
+  }
+  return false;
+}
+
+void Grouped() {
+  s2ix::Index index;
+  index.add(kFace, 3);
+  EXPECT(index.join(0) == 0 && index.join(1) == 1);
+  REFUSED(S2IX_TOO_FEW_CHANGES, index.join(2));
+  EXPECT(index.group([&] {
+    index.add(kFirst, 9, 2);
+    index.add(kSecond, 9);
+    index.remove(kSecond, 9);
+    index.add(kLeaf, 8);
+  }) == 2);
+  EXPECT(index.done_count() == 2 && index.change(2).size() == 2);
+  const std::string dump = index.dump(), journal = index.journal();
+  EXPECT(index.undo() == 2 && index.copies() == 1 && index.redo() == 2);
+
+  // All is undone if it throws, whatever it throws, or if an edit in it is refused.
+  REFUSED(S2IX_NOT_HELD, index.group([&] {
+    index.add(kSecond, 4);
+    index.remove(kFirst, 9, 3);
+  }));
+  EXPECT(index.dump() == dump && index.journal() == journal);
+  bool is_thrown = false;
+  try {
+    index.group([&] {
+      index.add(kSecond, 4);
+      index.group([&] { index.add(kSecond, 5); });
+      throw 7;
+    });
+  } catch (int seven) {
+    is_thrown = seven == 7;
+  }
+  EXPECT(is_thrown && index.dump() == dump && index.journal() == journal);
+
+  // Nothing of it is left if the counts are what they were. Within it no earlier change is undone, joined or dropped.
+  EXPECT(index.group([&] {
+    index.add(kSecond, 4);
+    EXPECT(index.undo() == 1);
+    REFUSED(S2IX_NOTHING_TO_UNDO, index.undo());
+    EXPECT(index.redo() == 1);
+    REFUSED(S2IX_TOO_FEW_CHANGES, index.join(2));
+    EXPECT(IsMistake([&] { index.forget(); }) && IsMistake([&] { index.forget_older(1); }) && IsMistake([&] { index.clear(); }));
+    EXPECT(IsMistake([&] { index.line("undo"); }) && IsMistake([&] { index.line(" forget"); }));
+    EXPECT(index.line("remove 0c 4") == "ok 1\n");
+  }) == 0);
+  EXPECT(index.group([] {}) == 0 && index.dump() == dump && index.journal() == journal);
+  EXPECT(index.line("undo") == "ok 2\n" && index.line("forget") == "ok 0\n");
+}
+
 // Whether a call is refused for a number, at a place or at none, and says so.
 template <class Call>
 bool Names(std::uint32_t status, std::uint64_t value, std::optional<std::size_t> place, Call call) {
@@ -356,6 +451,7 @@ void WrittenAndRead() {
     EXPECT(error.line() == 2 && std::string(error.what()) == "s2ix: " + s2ix::status_text(S2IX_NO_DUMP) + ": line 2");
   }
   EXPECT(s2ix::status_text(S2IX_DONE) == "done" && !s2ix::status_text(77).empty());
+  EXPECT(s2ix::version() == S2IX_VERSION);
 }
 
 void Cells() {
@@ -555,17 +651,6 @@ void NamedAsInS2() {
   EXPECT(moved.num_cells() == 1);
 }
 
-// Whether a call is refused as a mistake of the program.
-template <class Call>
-bool IsMistake(Call call) {
-  try {
-    call();
-  } catch (const std::logic_error&) {
-    return true;
-  }
-  return false;
-}
-
 // Whether each call that changes an index is refused as a mistake.
 bool RefusesEdits(s2ix::Index& index) {
   return IsMistake([&] { index.add(kSecond, 1); }) && IsMistake([&] { index.add_all({{kSecond, 1, 1}}); }) &&
@@ -573,7 +658,8 @@ bool RefusesEdits(s2ix::Index& index) {
          IsMistake([&] { index.drop_label(1); }) && IsMistake([&] { index.relabel(1, 2); }) && IsMistake([&] { index.grow(1, 1); }) &&
          IsMistake([&] { index.normalise_label(1); }) && IsMistake([&] { index.revert(1); }) && IsMistake([&] { index.undo(); }) &&
          IsMistake([&] { index.redo(); }) && IsMistake([&] { index.forget(); }) && IsMistake([&] { index.clear(); }) &&
-         IsMistake([&] { index.line("undo"); });
+         IsMistake([&] { index.line("undo"); }) && IsMistake([&] { index.apply("s2ix-journal 2\nend 0\n"); }) &&
+         IsMistake([&] { index.join(1); }) && IsMistake([&] { index.group([] {}); }) && IsMistake([&] { index.forget_older(1); });
 }
 
 // A visitor, here of three pages, may query and visit the index, but not change it. When the visit has ended, all may.
@@ -620,6 +706,8 @@ int main() {
   Lines();
   WrittenAndRead();
   ChangedAndReplayed();
+  ResumedAndApplied();
+  Grouped();
   NamesWhatIsWrong();
   TakesWhatHasId();
   KeepsCells();
