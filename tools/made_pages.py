@@ -29,7 +29,7 @@ WAY = {
     "Both lines come in:": """s2ix/main s2ix_cli_words/command_of s2ix/run s2ix_cli/run s2ix_text_parts/FromRead::piece s2ix_cli/run_piece
         s2ix_cli/run_line s2ix_cli_script/meaning s2ix_cli_words/Fields::next s2ix_cli_script/asked_by""",
     "`relabel 9 3` changes the store:": """s2ix_cli_script/relabel_named s2ix_cli/run_instruction s2ix_edit/Store::edit s2ix_edit_plan/plan
-        s2ix_edit/apply_planned s2ix_bag_changes/Bag::applied s2ix_bag_lists/FaceLists::after s2ix_table/FacedTable::rebuilt
+        s2ix_edit/apply_planned s2ix_bag_changes/Bag::applied s2ix_bag_lists/FaceLists::after s2ix_table/FacedTable::rebuild
         s2ix_table/read_list s2ix_table_spans/SpanTable::after s2ix_table/Offset::after s2ix_cli/print_step
         s2ix_cli_answers/write_ok s2ix_text_parts/put_together""",
     "`meet 1c 04` reads it:": """s2ix_cli_script/union_named s2id_core/CellId::from_token s2id_union/CellUnion::normalise s2ix_cli/print_meeting

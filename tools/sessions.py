@@ -74,7 +74,8 @@ FAULTY_JOURNALS = {
 
 # Files of the examples of commands, and the commands that need no other file.
 TEXTS = {"before": "s2ix 2/end 0 0/", "after": "s2ix 2/04 3 3/end 1 3/", "loose": "s2ix 2/040 9 1/end 1 1/"}
-COMMANDS = ("check after", "check loose", "replay before journal", "rewind after journal", "replay after journal", "run --load loose")
+COMMANDS = ("check after", "check loose", "replay before journal", "rewind after journal", "replay after journal", "diff before after",
+            "run --load loose", "run --load before --journal journal")
 CHANGES = ("add 04 9 2", "add 04 3", "relabel 9 3")
 
 
@@ -144,6 +145,10 @@ def printed_by(command):
     texts["journal"] = "".join(f"{line}\n" for line in after([*CHANGES, "journal"])[1]).encode()
     word, *files = [part for part in command.split() if not part.startswith("--")]
     given = [texts[file] for file in files]
+    if word == "diff":
+        return plain_readers.compared(*given)
+    if len(given) > 1 and word == "run":
+        return plain_readers.resumed(*given)
     if word == "run":
         return plain_readers.loaded(*given, plain_readers.MOST_PAIRS, plain_readers.MOST_COUNT)
     return plain_readers.check(*given) if word == "check" else plain_readers.moved(*given, word == "rewind")
@@ -155,4 +160,4 @@ def commands():
     _, answer = after(["undo"])
     rows = [("", "output"), *rows, ("printf 'undo\\nadd 1 1\\n' | s2ix run --stop", *answer), ("s2ix check nothere", "")]
     status = {"": "3", "output": "status"}
-    yield from ["```", *[f"{asked:<44}{told:<30}{status.get(told, str(int(told.startswith('no ')))):}" for asked, told in rows], "```"]
+    yield from ["```", *[f"{asked:<44}{told:<44}{status.get(told, str(int(told.startswith('no ')))):}" for asked, told in rows], "```"]
