@@ -182,7 +182,7 @@ edit_followed s other edit st same =
     (changed_between other.bag.held (edited (history_of other) edit) st.bag.rises (held_edited_is_collection other edit st.bag.rises))
 
 -- each change that can be taken back rises
-rise_back : (bag : LimitedCollection) (ess : List (List Entry)) → CanGoBack bag ess → All IsChangeList ess
+pub rise_back : (bag : LimitedCollection) (ess : List (List Entry)) → CanGoBack bag ess → All IsChangeList ess
 rise_back bag [] back = All-nil IsChangeList
 rise_back bag (es ∷ older) back =
     All-cons IsChangeList es older back.0 (rise_back (with_held bag (changed bag.held (inverse_of es))) older back.3)

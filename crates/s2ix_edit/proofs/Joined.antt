@@ -266,7 +266,7 @@ from_cursor s =
     ∙ ap (λ ess. earlier s.bag.held (reverse ess) ++ s.bag.held ∷ later s.bag.held (reverse s.undone))
     (drop_all (length s.done) s.done (omega arith))
 
-held_at_cursor : (s : State) → at_cursor (history_of s) ≡ s.bag.held
+pub held_at_cursor : (s : State) → at_cursor (history_of s) ≡ s.bag.held
 held_at_cursor s =
     let before = earlier s.bag.held (reverse s.done) in
     let after = later s.bag.held (reverse s.undone) in
@@ -407,26 +407,8 @@ undo_of_join s number st some =
 -- ---- what a store joins
 
 -- the last changes, read off a list
-last_listed : (done : List (List Entry)) (place : ℕ) → take (length done - place) (drop place done) ≡ drop place done
+pub last_listed : (done : List (List Entry)) (place : ℕ) → take (length done - place) (drop place done) ≡ drop place done
 last_listed done place = take_all (length done - place) (drop place done) (omega (arith, length-drop place done))
-
-pub last_led : (s : State) (listed : List (List Entry)) (number last : ℕ) → IsStore s → listed ≡ s.done → number ≡ length s.done
-    → rewind_refusal s.bag (take (length listed - (number - last)) (drop (number - last) listed)) ≡ None
-last_led s listed number last st read many =
-    ap₂ (λ (ess : List (List Entry)) (n : ℕ). rewind_refusal s.bag (take (length ess - (n - last)) (drop (n - last) ess))) read many
-    ∙ ap (rewind_refusal s.bag) (last_listed s.done (length s.done - last))
-    ∙ last_taken_back s last st
-
-pub joins_last : (s : State) (listed : List (List Entry)) (number last : ℕ) (es : List Entry) → listed ≡ s.done → number ≡ length s.done
-    → es ≡ change_between (rewound s.bag (take (length listed - (number - last)) (drop (number - last) listed))).held s.bag.held
-    → es ≡ joined_last s last
-joins_last s listed number last es read many is =
-    is
-    ∙ ap₂ (λ (ess : List (List Entry)) (n : ℕ).
-    change_between (rewound s.bag (take (length ess - (n - last)) (drop (n - last) ess))).held s.bag.held)
-    read many
-    ∙ ap (λ (ess : List (List Entry)). change_between (rewound s.bag ess).held s.bag.held) (last_listed s.done (length s.done - last))
-    ∙ joined_by_rewind s last
 
 pub last_has_place : (s : State) (number last : ℕ) (es : List Entry) → IsStore s → number ≡ length s.done → es ≡ joined_last s last
     → 0 < length es → number - last < length s.done

@@ -75,7 +75,7 @@ none_of_three false false true none = cc
 none_of_three false false false none = (refl, refl)
 
 -- a bag takes entries that a store does not refuse
-taken_of_entries : (bag : LimitedCollection) (es : List Entry) → first_mismatch bag es ≡ None → entries_refusal bag es ≡ None
+pub taken_of_entries : (bag : LimitedCollection) (es : List Entry) → first_mismatch bag es ≡ None → entries_refusal bag es ≡ None
     → apply_refusal bag es ≡ None
 taken_of_entries bag es matches none =
     let two = none_of_three (length es == 0) (list_any (λ e. nat_lt (count_limit bag.limits) e.after) es)

@@ -41,13 +41,17 @@ use Rattle.s2ix_bag_lists.proofs.Refusals.{made_is_bag, taken_from_none}
 -- ---- a change that is given
 
 -- the history goes on to what the change makes
-pub history_recorded : (s : State) (es : List Entry) → IsStore s → IsChangeList es → apply_refusal s.bag es ≡ None
+pub history_made : (s : State) (es : List Entry) → IsBag s.bag → IsChangeList es → apply_refusal s.bag es ≡ None
     → history_of (after_record s es) ≡ with_next (history_of s) (changed s.bag.held es)
-history_recorded s es st rises taken =
+history_made s es b rises taken =
     ap₂ (λ (collections : List Collection) (cursor : ℕ). let h : History = record { collections = collections; cursor = cursor } in h)
     (collections_recorded s.bag.held (changed s.bag.held es) es s.done (later s.bag.held (reverse s.undone))
-    (changed_back s.bag es st.bag.rises rises (not_mismatched s.bag es taken)))
+    (changed_back s.bag es b.rises rises (not_mismatched s.bag es taken)))
     (length-append s.done (es ∷ []))
+
+pub history_recorded : (s : State) (es : List Entry) → IsStore s → IsChangeList es → apply_refusal s.bag es ≡ None
+    → history_of (after_record s es) ≡ with_next (history_of s) (changed s.bag.held es)
+history_recorded s es st rises taken = history_made s es st.bag rises taken
 
 -- with room for a change that has entries, the bag alone refuses it
 pub refused_by_bag : (s : State) (es : List Entry) → HasRoom s → 0 < length es

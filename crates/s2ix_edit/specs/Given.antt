@@ -7,7 +7,8 @@ use Rattle.s2ix_bag_pairs.specs.Limits.{changes_limit}
 use Rattle.s2ix_bag.specs.declared.replay_error.ReplayError.{ReplayError}
 use Rattle.s2ix_bag.specs.declared.replay_error.ReplayError.TheVariants as replay
 use Rattle.s2ix_bag.specs.Replay.{replayed, replay_refusal, rewind_refusal}
-use Rattle.s2ix_bag_pairs.specs.Change.{change_between}
+use Rattle.s2ix_bag_pairs.specs.Change.{change_between, changed}
+use Rattle.s2ix_edit_plan.specs.History.{History, at_cursor, with_next}
 use Rattle.s2ix_edit_plan.specs.State.{State}
 use Rattle.s2ix_edit.specs.Steps.{faces_of}
 use Rattle.s2ix_edit.specs.declared.history_error.HistoryError.{HistoryError}
@@ -71,3 +72,8 @@ after_apply s (es ∷ rest) = record {
 -- how many pairs they change together
 abbrev pub apply_size : State → List (List Entry) → ℕ
 apply_size s changes = length (change_between s.bag.held (replayed s.bag changes).held)
+
+-- the history that goes on by these changes, each a step from the cursor's collection; if there are none it stays as it is
+abbrev pub with_changes : List (List Entry) → History → History
+with_changes [] h = h
+with_changes (es ∷ rest) h = with_changes rest (with_next h (changed (at_cursor h) es))

@@ -1,4 +1,6 @@
 pub mod Given
+pub mod HeldLabels
+pub mod Joining
 pub mod OneChange
 pub mod Recorded
 pub mod Shortened
@@ -9,6 +11,7 @@ pub use Rattle.s2ix_bag.specs.Replay
 pub use Rattle.s2ix_bag_pairs.specs.Change
 pub use Rattle.s2ix_bag_pairs.specs.Collection
 pub use Rattle.s2ix_bag_pairs.specs.Limits
+pub use Rattle.s2ix_bag_pairs.specs.OfLabel
 pub use Rattle.s2ix_edit_plan.specs.Errors
 pub use Rattle.s2ix_edit_plan.specs.Edit
 pub use Rattle.s2ix_edit_plan.specs.Grow
@@ -19,4 +22,5 @@ pub use Rattle.s2ix_edit_plan.specs.Region
 pub use Rattle.s2ix_edit_plan.specs.Removals
 pub use Rattle.s2ix_edit_plan.specs.Rows
 pub use Rattle.s2ix_edit_plan.specs.State
+pub use Rattle.s2ix_table_walk.specs.LabelList
 pub use Rattle.s2ix_table_walk.specs.Table

@@ -1,15 +1,14 @@
-//! Changes that are given to a store: when they are refused, and how they are recorded. And how recorded changes are joined.
+//! Changes that are given to a store: when they are refused, and how they are recorded. And how a joined change takes the place of others.
 
-ghost use Rattle.std.specs.Prelude.{◌≡◌, All, None, Some, ◌++◌, ◌<◌, ◌≤◌, ◌+◌, IfErr, IfOk, OnOk, length, take, vec_capacity, vec_len};
-ghost use Rattle.s2ix_bag_pairs.specs.Change.{IsChangeList, change_between};
+ghost use Rattle.std.specs.Prelude.{◌≡◌, All, None, Some, ◌++◌, ◌<◌, ◌≤◌, ◌+◌, IfErr, OnOk, length, take, vec_capacity, vec_len};
+ghost use Rattle.s2ix_bag_pairs.specs.Change.{IsChangeList};
 ghost use Rattle.s2ix_bag_pairs.specs.Limits.{changes_limit};
-ghost use Rattle.s2ix_bag.specs.Replay.{first_refusal, rewind_refusal, rewound, way_back, with_numbers};
+ghost use Rattle.s2ix_bag.specs.Replay.{first_refusal, way_back, with_numbers};
 ghost use Rattle.s2ix_edit.specs.Steps.{recorded_alone};
 ghost use Rattle.s2ix_edit.specs.Given.{IsHistoryError, first_empty, history_refusal, record_refusal};
 
 use crate::history_error::HistoryError;
-use s2id_core::OutOfMemory;
-use s2ix_bag::{ReplayError, rewind};
+use s2ix_bag::rewind;
 use s2ix_bag_changes::{Bag, Change};
 use std::alloc::Global;
 
@@ -54,29 +53,6 @@ pub(crate) fn test_history(alloc: Global, bag: &Bag, changes: &[Change]) -> Resu
     test_recordable(changes, bag.limits().changes() as usize)?;
     rewind(alloc, bag, changes)?;
     Ok(())
-}
-
-// The one change that does what all of these do, if they led to the bag. It can fail only for want of memory.
-pub(crate) fn joined_change(
-    alloc: Global,
-    bag: &Bag,
-    changes: &[Change],
-) -> Result<Change, OutOfMemory>
-    requires led { rewind_refusal bag.now changes.now ≡ None }
-    ensures { IfOk result (λ change. change ≡ change_between (rewound bag.now changes.now).held bag.now.held) }
-{
-    match rewind(alloc, bag, changes) {
-        Ok(before) => Change::between(alloc, &before, bag),
-        Err(
-            ReplayError::Mismatch {
-                change: _,
-                entry: _,
-            },
-        ) => unreachable!(),
-        Err(ReplayError::TooManyCopies { change: _ }) => unreachable!(),
-        Err(ReplayError::TooManyPairs { change: _ }) => unreachable!(),
-        Err(ReplayError::OutOfMemory) => Err(OutOfMemory),
-    }
 }
 
 // Replaces all changes from a place on by one, or by none if that one has no entries.

@@ -1,3 +1,4 @@
+//! Why a store takes no history and does no given changes, doesn't do one given change, or doesn't join changes.
 use s2id_core::OutOfMemory;
 use s2ix_bag::ReplayError;
 use s2ix_bag_lists::ApplyError;

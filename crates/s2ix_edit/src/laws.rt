@@ -16,13 +16,14 @@ ghost use Rattle.s2ix_edit_plan.specs.declared.edit.Edit.TheVariants.{Add, DropL
 ghost use Rattle.s2ix_edit_plan.specs.Edit.{edited, edited_by};
 ghost use Rattle.s2ix_edit_plan.specs.History.{changes_along, cursor_alone, one_back, one_on, with_next};
 ghost use Rattle.s2ix_edit_plan.specs.State.{State, change_of, history_of, starting_at};
-ghost use Rattle.s2ix_edit_plan.specs.Removals.{removal_change};
+ghost use Rattle.s2ix_edit_plan.specs.Removals.{removal_change, removal_refusal};
 ghost use Rattle.s2ix_edit_plan.specs.Rows.{rows_change, rows_refusal};
 ghost use Rattle.s2ix_edit_plan.specs.Refusals.{edit_refusal, goes_below_zero, has_count_above, lacks_change, reverts};
+ghost use Rattle.s2ix_edit.specs.declared.held_labels.HeldLabel.{HeldLabel};
 ghost use Rattle.s2ix_edit.specs.declared.history_error.HistoryError.{HistoryError};
 ghost use Rattle.s2ix_edit.specs.declared.history_error.JoinError.{JoinError};
 ghost use Rattle.s2ix_edit.specs.declared.history_error.RecordError.{RecordError};
-ghost use Rattle.s2ix_edit.specs.Given.{after_apply, given_refusal, history_refusal, led_by};
+ghost use Rattle.s2ix_edit.specs.Given.{after_apply, given_refusal, history_refusal, led_by, with_changes};
 ghost use Rattle.s2ix_edit.specs.OneChange.{change_refusal};
 ghost use Rattle.s2ix_edit.specs.Recorded.{IsRecorded};
 ghost use Rattle.s2ix_edit.specs.Standing.{first_collection, gain_along, without_numbered};
@@ -31,6 +32,7 @@ ghost use Rattle.s2ix_edit.specs.Steps.{after_edit, after_forget, after_forget_o
 ghost use Rattle.s2ix_edit.specs.Store.{IsStore};
 ghost use Rattle.s2ix_table_walk.specs.Table.{Range, IsRangeTable};
 
+use crate::held_labels::HeldLabel;
 use crate::history_error::{HistoryError, JoinError, RecordError};
 
 /// Two errors are equal exactly if they are the same.
@@ -45,6 +47,16 @@ pub fn cloned_errors_are_the_same()
     ensures history { (error copy : HistoryError) → ⟦<HistoryError as Clone>⟧.is_clone error copy ↔ (copy ≡ error) }
     ensures record_change { (error copy : RecordError) → ⟦<RecordError as Clone>⟧.is_clone error copy ↔ (copy ≡ error) }
     ensures join { (error copy : JoinError) → ⟦<JoinError as Clone>⟧.is_clone error copy ↔ (copy ≡ error) }
+{}
+
+/// Two held labels are equal exactly if they are the same.
+pub fn equal_held_labels_are_one()
+    ensures { (a b : HeldLabel) → IsTrue (⟦<HeldLabel as PartialEq>⟧.eq a b) ↔ (a ≡ b) }
+{}
+
+/// A clone of a held label is the same.
+pub fn cloned_held_labels_are_the_same()
+    ensures { (a copy : HeldLabel) → ⟦<HeldLabel as Clone>⟧.is_clone a copy ↔ (copy ≡ a) }
 {}
 
 /// The change that an edit records has the two counts of exactly the pairs whose counts the edit changes.
@@ -155,6 +167,7 @@ pub fn steps_keep_limits()
     ensures undo { (s : State) → (after_undo s).bag.limits ≡ s.bag.limits }
     ensures redo { (s : State) → (after_redo s).bag.limits ≡ s.bag.limits }
     ensures record_change { (s : State) (es : List Entry) → (after_record s es).bag.limits ≡ s.bag.limits }
+    ensures add_all { (s : State) (rows : List Held) → (after_rows s rows).bag.limits ≡ s.bag.limits }
     ensures remove_all { (s : State) (rows : List Held) → (after_removal s rows).bag.limits ≡ s.bag.limits }
     ensures forget { (s : State) → (after_forget s).bag.limits ≡ s.bag.limits }
     ensures forget_older { (s : State) (newest : ℕ) → (after_forget_older s newest).bag.limits ≡ s.bag.limits }
@@ -162,13 +175,21 @@ pub fn steps_keep_limits()
     ensures apply { (s : State) (changes : List (List Entry)) → (after_apply s changes).bag.limits ≡ s.bag.limits }
 {}
 
-/// Each step of a store leads to a store: an edit or a given change that is accepted, an undo and a redo of a change that there is,
-/// forgetting, of all changes or of older ones, a join, and given changes that are not refused.
+/// Each step of a store leads to a store: an edit, added or removed rows, or a given change, if they are accepted, an undo and a redo of a
+/// change that there is, forgetting, of all changes or of older ones, a join, and given changes that are not refused.
 pub fn steps_lead_to_stores()
     ensures edit { (s : State) (edit : Edit)
         → IsStore s
         → edit_refusal s edit ≡ None
         → IsStore (after_edit s edit) }
+    ensures add_all { (s : State) (rows : List Held)
+        → IsStore s
+        → rows_refusal s rows ≡ None
+        → IsStore (after_rows s rows) }
+    ensures remove_all { (s : State) (rows : List Held)
+        → IsStore s
+        → removal_refusal s rows ≡ None
+        → IsStore (after_removal s rows) }
     ensures record_change { (s : State) (es : List Entry)
         → IsStore s
         → IsChangeList es
@@ -238,7 +259,7 @@ pub fn counts_are_first_and_standing()
         → pos (count_in s.bag.held pair) ≡ pos (count_in (first_collection s) pair) +ℤ gain_along s.done pair }
 {}
 
-/// Edits, undos and redos keep the first collection. It is the one that the bag holds when a store starts, and after its changes are
+/// Edits, undos, redos, joins and given changes keep the first collection. It is the one that the bag holds when a store starts, and after its changes are
 /// forgotten; if only older ones are, it is the one before those that are kept.
 pub fn steps_keep_the_first_collection()
     ensures start { (bag : LimitedCollection) → first_collection (starting_at bag) ≡ bag.held }
@@ -386,7 +407,7 @@ pub fn stores_follow_each_other()
 
 /// Each step of a store is the step of its history: an edit goes on to the edited collection, undo goes back by one,
 /// redo on by one, and forget keeps only the collection at the cursor. If older changes are forgotten, the history starts later. A join
-/// leaves out what lies between the collection before the joined changes and the cursor's.
+/// leaves out what lies between the collection before the joined changes and the cursor's. Given changes are a step each.
 pub fn steps_follow_the_history()
     ensures edit { (s : State) (edit : Edit)
         → IsStore s
@@ -405,4 +426,9 @@ pub fn steps_follow_the_history()
     ensures join { (s : State) (number : ℕ)
         → IsStore s
         → history_of (after_join s number) ≡ with_joined number (history_of s) }
+    ensures apply { (s : State) (changes : List (List Entry))
+        → IsStore s
+        → All IsChangeList changes
+        → given_refusal s changes ≡ None
+        → history_of (after_apply s changes) ≡ with_changes changes (history_of s) }
 {}

@@ -11,12 +11,15 @@
 #![tactic(auto)]
 
 mod given;
+mod held_labels;
 mod history_error;
+mod joining;
 pub mod laws;
 mod steps;
 mod store;
 mod store_table;
 
+pub use held_labels::HeldLabel;
 pub use history_error::{HistoryError, JoinError, RecordError};
 pub use s2ix_edit_plan::{
     Edit, EditError, RedoError, RemoveError, UndoError, plan, plan_removals, plan_rows, region_of,

@@ -1,10 +1,11 @@
-ghost use Rattle.std.specs.Prelude.{◌≡◌, ◌≢◌, ◌↔◌, ◌+◌, ◌-◌, ◌<◌, ◌≤◌, true, false, [], ◌∷◌, length, reverse, take, None, IfOk, IfErr, OnOk, OnErr, All};
+ghost use Rattle.std.specs.Prelude.{◌≡◌, ◌≢◌, ◌↔◌, ◌+◌, ◌-◌, ◌<◌, ◌≤◌, true, false, [], ◌∷◌, length, reverse, take, None, IfOk, IfErr, IsErr, OnOk, OnErr, All, map};
 ghost use Rattle.s2id_union.specs.Region.{HaveSameRegion, IsNormal};
 ghost use Rattle.s2ix_bag_lists.specs.Apply.{apply_refusal, first_mismatch};
 ghost use Rattle.s2ix_bag_pairs.specs.declared.pair.Pair.{Pair};
 ghost use Rattle.s2ix_bag_pairs.specs.Change.{changed, counts_at, difference_of};
 ghost use Rattle.s2ix_bag_pairs.specs.Collection.{IsBag, copies_in, count_in};
 ghost use Rattle.s2ix_bag_pairs.specs.Limits.{changes_limit, count_limit, pairs_limit};
+ghost use Rattle.s2ix_bag_pairs.specs.OfLabel.{held_of};
 ghost use Rattle.s2ix_bag_pairs.specs.Pair.{rank_of};
 ghost use Rattle.s2ix_edit_plan.specs.Errors.{IsEditRefusal};
 ghost use Rattle.s2ix_edit_plan.specs.Edit.{edited};
@@ -16,16 +17,20 @@ ghost use Rattle.s2ix_edit_plan.specs.Rows.{copies_at, rows_change, rows_refusal
 ghost use Rattle.s2ix_edit_plan.specs.Region.{cells_of, region_of as region_in};
 ghost use Rattle.s2ix_edit_plan.specs.State.{State, change_of, history_of, starting_at};
 ghost use Rattle.s2ix_bag.specs.Replay.{first_refusal, way_back, with_numbers};
-ghost use Rattle.s2ix_edit.specs.Given.{IsHistoryError, after_apply, apply_size, given_refusal, history_refusal, led_by, record_refusal};
+ghost use Rattle.s2ix_edit.specs.Given.{IsHistoryError, after_apply, apply_size, given_refusal, history_refusal, led_by, record_refusal, with_changes};
+ghost use Rattle.s2ix_edit.specs.HeldLabels.{held_labels, name_of};
 ghost use Rattle.s2ix_edit.specs.OneChange.{IsRecordRefusal, change_refusal};
 ghost use Rattle.s2ix_edit.specs.Recorded.{IsRecorded};
 ghost use Rattle.s2ix_edit.specs.Shortened.{with_joined, with_newest};
 ghost use Rattle.s2ix_edit.specs.Steps.{after_edit, after_forget, after_forget_older, after_join, after_record, after_redo, after_removal, after_rows, after_undo, joined_last, redo_size, undo_size, with_held};
 ghost use Rattle.s2ix_edit.specs.Store.{CanGoBack, CanGoOn, HasRoom, IsStore};
+ghost use Rattle.s2ix_table_walk.specs.LabelList.{label_list};
 ghost use Rattle.s2ix_table_walk.specs.Table.{IsRangeTable};
 
-use crate::given::{append_within, joined_change, replace_from, test_history, test_recordable};
+use crate::given::{append_within, replace_from, test_history, test_recordable};
+use crate::held_labels::{HeldLabel, held_labels_of};
 use crate::history_error::{HistoryError, JoinError, RecordError};
+use crate::joining::{first_size, joined_change};
 use crate::steps::{
     apply_planned, apply_recorded, keep_newest, make_room, rebuild_for, shift_last,
 };
@@ -383,20 +388,26 @@ impl Store {
 
     /// Makes one change of the newest ones that can be undone, `last` of them. One undo then takes them back together. Its entries are the
     /// pairs whose counts differ between the collection before them and now; if none differ, the changes are gone. Returns how many pairs
-    /// differ. With `last` 0 or 1 nothing changes. Collection and table stay, and so does what can be redone. `TooFewChanges` is tested
-    /// first; then `OutOfMemory` if a growth is refused. O(n + m log n) for n pairs and m entries in these changes. This project's own.
+    /// differ. With `last` 0 or 1 nothing changes, and it does not allocate. Collection and table stay, and so does what can be redone.
+    /// `TooFewChanges` is tested first; then `OutOfMemory` if a growth is refused. O(m log k) for m entries in k changes: it reads no pair of
+    /// the collection. This project's own.
     pub fn join(&mut self, last: usize) -> Result<usize, JoinError>
         ensures state { OnOk result (self.new ≡ after_join self.old last) }
         ensures history { OnOk result (history_of self.new ≡ with_joined last (history_of self.old)) }
         ensures number { IfOk result (λ n. n ≡ length (joined_last self.old last)) }
         ensures too_few { (result ≡ Err JoinError.TooFewChanges) ↔ (length self.old.done < last) }
+        ensures nothing { last ≤ 1 → result ≢ Err JoinError.OutOfMemory }
+        ensures stays { last ≤ 1 → self.new ≡ self.old }
         ensures unchanged { OnErr result (self.new ≡ self.old) }
     {
         let number = self.done.len();
         if number < last {
             return Err(JoinError::TooFewChanges);
         }
-        let change = joined_change(self.alloc, &self.bag, &self.done[number - last..])?;
+        if last < 2 {
+            return Ok(first_size(&self.done[number - last..]));
+        }
+        let change = joined_change(self.alloc, &self.done[number - last..])?;
         let pairs = change.entries().len();
         replace_from(&mut self.done, number - last, change);
         Ok(pairs)
@@ -405,10 +416,11 @@ impl Store {
     /// Does changes in their order, as [`replay`](s2ix_bag::replay) does: what another store did, from an equal bag on. Each can be undone by
     /// itself, and what could be redone is gone. Returns how many pairs have another count than before. If there are no changes, nothing
     /// happens. [`HistoryError`] says when they are refused; then nothing changes, and they are dropped. `OutOfMemory` if a growth is
-    /// refused; it comes in place of no refusal but that of a change after the first. O(n + m log n) for n pairs and m entries in all
-    /// changes. This project's own.
+    /// refused; it comes in place of no refusal but that of a change after the first. It costs O(m log n + q + k) for m entries in all
+    /// changes, with q and k as for [`edit`](Store::edit): one change costs about what [`record`](Store::record) does. This project's own.
     pub fn apply(&mut self, changes: Vec<Change>) -> Result<usize, HistoryError>
         ensures state { OnOk result (self.new ≡ after_apply self.old changes.items) }
+        ensures history { OnOk result (history_of self.new ≡ with_changes changes.items (history_of self.old)) }
         ensures number { IfOk result (λ n. n ≡ apply_size self.old changes.items) }
         ensures accepted { OnOk result (given_refusal self.old changes.items ≡ None) }
         ensures refused { IfErr result (λ error. IsHistoryError error (given_refusal self.old changes.items)) }
@@ -416,6 +428,7 @@ impl Store {
             → record_refusal (changes_limit self.old.bag.limits - length self.old.done) changes.items ≡ None }
         ensures first { result ≡ Err HistoryError.OutOfMemory
             → first_refusal self.old.bag (take 1 (with_numbers changes.items)) ≡ None }
+        ensures nothing { changes.items ≡ [] → result ≢ Err HistoryError.OutOfMemory }
         ensures unchanged { OnErr result (self.new ≡ self.old) }
     {
         if changes.is_empty() {
@@ -424,7 +437,7 @@ impl Store {
         let room = self.bag.limits().changes() as usize - self.done.len();
         test_recordable(changes.as_slice(), room)?;
         let bag = replay(self.alloc, &self.bag, changes.as_slice())?;
-        let whole = Change::between(self.alloc, &self.bag, &bag)?;
+        let whole = joined_change(self.alloc, changes.as_slice())?;
         make_room(&mut self.done, changes.len())?;
         rebuild_for(self.alloc, &mut self.table, &bag, &whole)?;
         append_within(&mut self.done, changes);
@@ -488,6 +501,21 @@ impl Store {
         ensures normal { IfOk result IsNormal }
     {
         region_of(self.alloc, &self.bag, label)
+    }
+
+    /// The labels of the held pairs, rising, each once: with how many pairs have it, and the sum of their counts. `OutOfMemory` if a growth
+    /// is refused; none is asked for if no pair is held. O(n log n) for n pairs. This project's own.
+    pub fn held_labels(&self) -> Result<Vec<HeldLabel>, OutOfMemory>
+        ensures labels { IfOk result (λ list. map name_of list.items ≡ label_list self.now.bag.held) }
+        ensures pairs { IfOk result (λ list.
+            All (λ total. total.pairs ≡ length (held_of total.label self.now.bag.held)) list.items) }
+        ensures copies { IfOk result (λ list.
+            All (λ total. total.copies ≡ copies_in (held_of total.label self.now.bag.held)) list.items) }
+        ensures list { IfOk result (λ list. list.items ≡ held_labels self.now.bag.held) }
+        ensures few { IfOk result (λ list. All (λ total. total.pairs ≤ pairs_limit self.now.bag.limits) list.items) }
+        ensures memory { IsErr result → self.now.bag.held ≢ [] }
+    {
+        held_labels_of(self.alloc, &self.bag)
     }
 
     /// The changes that can be undone, the oldest first. They lead to the store's collection: from the last on, each can

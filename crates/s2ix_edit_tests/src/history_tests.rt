@@ -81,13 +81,42 @@ fn a_history_must_lead_to_its_bag(rt: HostRuntime) {
 fn the_last_changes_are_joined(rt: HostRuntime) {
     let mut store = edited(rt.alloc(), Limits::default()).expect(&rt, "a store");
     assert!(rt; store.join(3) == Err(JoinError::TooFewChanges));
-    assert!(rt; store.join(0) == Ok(0) && are_changes(store.done(), &["04:9:0:2", "04:9:2:5"]));
+    assert!(rt; store.join(0) == Ok(0) && store.join(1) == Ok(1));
+    assert!(rt; are_changes(store.done(), &["04:9:0:2", "04:9:2:5"]));
     assert!(rt; store.join(2) == Ok(1) && are_changes(store.done(), &["04:9:0:5"]));
     assert!(rt; are_changes(store.undone(), &["04:9:5:9"]) && holds_pairs(store.bag(), "04:9:5"));
     assert!(rt; store.redo() == Ok(1) && store.undo() == Ok(1) && store.undo() == Ok(1));
     assert!(rt;
         store.bag().is_empty() && store.redo() == Ok(1) && holds_pairs(store.bag(), "04:9:5")
     );
+}
+
+// Two pairs go and come back, one grows twice, and one comes last.
+const FIRST: &str = "04:9:0:5 1:2:0:3 3:7:0:1";
+
+const SECOND: &str = "04:9:5:0 3:7:1:2";
+
+const THIRD: &str = "1:2:3:0";
+
+const FOURTH: &str = "04:9:0:5 3:7:2:4";
+
+const FIFTH: &str = "1:2:0:3 5:2:0:6";
+
+const ALL: &[&str] = &[FIRST, SECOND, THIRD, FOURTH, FIFTH];
+
+const LATER: &[&str] = &[SECOND, THIRD, FOURTH, FIFTH];
+
+#[test]
+fn many_changes_are_joined(rt: HostRuntime) {
+    let mut store = led(rt.alloc(), "04:9:5 1:2:3 3:7:4 5:2:6", ALL)
+        .expect(&rt, "a list")
+        .expect(&rt, "a store");
+    assert!(rt; store.join(1) == Ok(2) && are_changes(store.done(), ALL));
+    assert!(rt; store.join(4) == Ok(2) && are_changes(store.done(), &[FIRST, "3:7:1:4 5:2:0:6"]));
+    assert!(rt; store.undo() == Ok(2) && holds_pairs(store.bag(), "04:9:5 1:2:3 3:7:1"));
+    assert!(rt; store.redo() == Ok(2) && store.join(2) == Ok(4));
+    assert!(rt; are_changes(store.done(), &["04:9:0:5 1:2:0:3 3:7:0:4 5:2:0:6"]));
+    assert!(rt; store.undo() == Ok(4) && store.bag().is_empty());
 }
 
 #[test]
@@ -128,6 +157,20 @@ fn changes_of_another_store_are_done(rt: HostRuntime) {
             && store.apply(more) == Ok(1)
             && store.redo() == Err(RedoError::NothingToRedo)
     );
+}
+
+#[test]
+fn given_changes_count_together(rt: HostRuntime) {
+    let bag: Bag = bag_of(rt.alloc(), WIDEST, "04:9:5 1:2:3 3:7:1").expect(&rt, "a bag");
+    let mut store = Store::from_bag(rt.alloc(), bag).expect(&rt, "a store");
+    let changes = changes_of(rt.alloc(), LATER).expect(&rt, "changes");
+    assert!(rt; store.apply(changes) == Ok(2) && store.faces_rebuilt() == 2);
+    assert!(rt;
+        are_changes(store.done(), LATER) && holds_pairs(store.bag(), "04:9:5 1:2:3 3:7:4 5:2:6")
+    );
+    let back = changes_of(rt.alloc(), &["5:2:6:7", "5:2:7:6"]).expect(&rt, "changes");
+    assert!(rt; store.apply(back) == Ok(0) && store.faces_rebuilt() == 0);
+    assert!(rt; store.join(2) == Ok(0) && are_changes(store.done(), LATER));
 }
 
 #[test]

@@ -131,6 +131,15 @@ static JOINED: Seen = Seen {
     ranges: 6,
 };
 
+// The grown store, its three changes joined.
+static ALL_JOINED: Seen = Seen {
+    pairs: ALL_FACES,
+    done: &["1:4:0:1 3:4:0:1 5:4:0:1 7:4:0:1 9:4:0:1 b:4:0:1"],
+    undone: &[],
+    faces: 1,
+    ranges: 6,
+};
+
 // The store before it grew, and then what it had undone done by changes that are given.
 static GIVEN: Seen = Seen {
     pairs: ALL_FACES,
@@ -266,6 +275,16 @@ fn refused_regions(rt: HostRuntime) {
     check_region(&rt, &store, &GROWN);
 }
 
+// The list of labels gets by with less room at first: one refused growth doesn't make it give up.
+#[test]
+fn refused_questions_of_labels(rt: HostRuntime) {
+    let store = grown(&rt, rt.alloc());
+    check_region(&rt, &store, &GROWN);
+    let labels = answer!(&rt, store.held_labels());
+    assert!(rt; labels.len() == 1 && labels[0].pairs == 6 && labels[0].copies == 6);
+    check_seen(&rt, &store, &GROWN);
+}
+
 // A forget before it takes no memory: `tests/hostile` looks that this test asks for as many growths as the one above.
 #[test]
 fn refused_regions_after_a_forget(rt: HostRuntime) {
@@ -347,9 +366,18 @@ fn refused_histories(rt: HostRuntime) {
 fn refused_joins(rt: HostRuntime) {
     let mut store = grown(&rt, rt.alloc());
     store.undo().expect(&rt, SET_UP);
+    assert!(rt; store.join(0) == Ok(0) && store.join(1) == Ok(4));
     let number = answer!(&rt, store.join(2), check_seen(&rt, &store, &BACK));
     assert!(rt; number == 5);
     check_seen(&rt, &store, &JOINED);
+}
+
+#[test]
+fn refused_joins_of_all(rt: HostRuntime) {
+    let mut store = grown(&rt, rt.alloc());
+    let number = answer!(&rt, store.join(3), check_seen(&rt, &store, &GROWN));
+    assert!(rt; number == 6);
+    check_seen(&rt, &store, &ALL_JOINED);
 }
 
 // How many pairs the changes change; if the store gave up and let them go, equal ones.

@@ -4,7 +4,7 @@ use s2ix_bag::Limits;
 use s2ix_bag_samples::{
     LimitRow, WIDEST, are_changes, bag_of, holds_pairs, label_of, list_of, pair_of,
 };
-use s2ix_edit::{Edit, RemoveError, Store, UndoError};
+use s2ix_edit::{Edit, HeldLabel, RemoveError, Store, UndoError};
 use s2ix_table::RangeTable;
 use std::alloc::Global;
 
@@ -111,4 +111,24 @@ fn a_region_has_the_fewest_cells(rt: HostRuntime) {
     let store = Store::from_bag(rt.alloc(), bag).expect(&rt, "a store");
     assert!(rt; has_region(&store, "9", "04 3") == Some(true));
     assert!(rt; has_region(&store, "8", "") == Some(true));
+}
+
+#[test]
+fn held_labels_have_their_totals(rt: HostRuntime) {
+    let bag = bag_of(rt.alloc(), WIDEST, TWO_SETS).expect(&rt, "a bag");
+    let store = Store::from_bag(rt.alloc(), bag).expect(&rt, "a store");
+    let labels = store.held_labels().expect(&rt, "the labels");
+    let wanted = [
+        HeldLabel {
+            label: label_of("7").expect(&rt, "a label"),
+            pairs: 1,
+            copies: 1,
+        },
+        HeldLabel {
+            label: label_of("9").expect(&rt, "a label"),
+            pairs: 8,
+            copies: 11,
+        },
+    ];
+    assert!(rt; &*labels == wanted.as_slice());
 }

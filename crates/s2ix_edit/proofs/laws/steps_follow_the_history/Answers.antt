@@ -1,5 +1,6 @@
 use Rattle.s2ix_edit.proofs.Followed.{history_after_forget, history_after_redo, history_after_undo, history_edited}
 use Rattle.s2ix_edit.proofs.Joined.{history_after_join}
+use Rattle.s2ix_edit.proofs.Joins.{history_after_apply}
 use Rattle.s2ix_edit.proofs.Shortened.{history_after_forget_older}
 use Rattle.s2ix_edit.proofs.laws.steps_follow_the_history.Goals as goal
 
@@ -11,4 +12,5 @@ returns c = record {
   forget = history_after_forget;
   forget_older = history_after_forget_older;
   join = history_after_join;
+  apply = history_after_apply;
 }

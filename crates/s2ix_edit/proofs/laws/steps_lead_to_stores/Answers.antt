@@ -2,12 +2,15 @@ use Rattle.s2ix_edit.proofs.Applied.{apply_keeps}
 use Rattle.s2ix_edit.proofs.Joined.{join_keeps}
 use Rattle.s2ix_edit.proofs.Kept.{edit_keeps, forget_keeps, redo_keeps, undo_keeps}
 use Rattle.s2ix_edit.proofs.Offered.{record_keeps}
+use Rattle.s2ix_edit.proofs.RowsKept.{removal_keeps, rows_keep}
 use Rattle.s2ix_edit.proofs.Shortened.{forget_older_keeps}
 use Rattle.s2ix_edit.proofs.laws.steps_lead_to_stores.Goals as goal
 
 pub returns : goal.returns
 returns c = record {
   edit = edit_keeps;
+  add_all = rows_keep;
+  remove_all = removal_keeps;
   record_change = record_keeps;
   undo = undo_keeps;
   redo = redo_keeps;

@@ -1,16 +1,19 @@
-use Rattle.std.proofs.Common.{◌≡◌, ◌-◌, ◌++◌, List, All, None, length, sym, ap, ap₂, ◌∙◌, subst, arith}
+use Rattle.std.proofs.Common.{◌≡◌, ◌-◌, ◌<◌, ◌++◌, List, All, None, length, sym, ap, ap₂, ◌∙◌, subst, arith}
 use Rattle.std.specs.Vec.{vec_len}
 use Rattle.std.proofs.lemmas.Bool.{eqb-false, eqb-true}
 use Rattle.s2ix_bag_pairs.specs.declared.pair.Entry.{Entry}
-use Rattle.s2ix_bag_pairs.specs.Change.{IsChangeList}
+use Rattle.s2ix_bag_pairs.specs.Change.{IsChangeList, change_between}
+use Rattle.s2ix_bag_pairs.specs.Collection.{LimitedCollection}
 use Rattle.s2ix_bag_pairs.specs.Limits.{changes_limit}
 use Rattle.s2ix_bag.specs.Replay.{replay_refusal, replayed}
-use Rattle.s2ix_edit_plan.specs.State.{State}
-use Rattle.s2ix_edit.specs.Given.{after_apply, given_refusal, record_refusal}
+use Rattle.s2ix_edit_plan.specs.State.{State, history_of}
+use Rattle.s2ix_edit.specs.Given.{after_apply, apply_size, given_refusal, record_refusal, with_changes}
+use Rattle.s2ix_edit.specs.Joining.{DoesAll}
 use Rattle.s2ix_edit.specs.Steps.{faces_of}
 use Rattle.s2ix_edit.specs.Store.{IsStore}
 use Rattle.s2ix_edit.proofs.Applied.{apply_some, given_keeps, given_parts, none_sized, rebuilds}
 use Rattle.s2ix_edit.proofs.Histories.{taken_whole}
+use Rattle.s2ix_edit.proofs.Joins.{history_after_apply, whole_change}
 use Rattle.s2ix_edit.proofs.store.Store.apply.Goals.{After-clear}
 use Rattle.s2ix_edit.proofs.store.Store.apply.Goals as goal
 
@@ -24,12 +27,23 @@ pub rebuild_for-requires : goal.rebuild_for-requires
 rebuild_for-requires c =
     let Rise : List (List Entry) → Type 0 = λ ess. All IsChangeList ess in
     let Taken : List (List Entry) → Type 0 = λ ess. replay_refusal c.self.inside.bag ess ≡ None in
-    let replays = c.in_ok-bag.ensures in
-    rebuilds _ c.args.changes.items c.in_ok-bag.bag c.in_ok-whole.whole _ c.self.invariant.0
-    (subst Rise c.as_slice.ensures.value c.in_ok-test_recordable.ensures.rise)
-    (subst Taken c.as_slice-2.ensures.value replays.accepted)
-    (replays.bag ∙ ap (replayed c.self.inside.bag) c.as_slice-2.ensures.value)
-    c.in_ok-whole.ensures c.self.invariant.1
+    let Does : List (List Entry) → Type 0 = λ ess. DoesAll ess c.in_ok-whole.whole in
+    let rise = subst Rise c.as_slice.ensures.value c.in_ok-test_recordable.ensures.rise in
+    let taken = subst Taken c.as_slice-2.ensures.value c.in_ok-bag.ensures.accepted in
+    let bag_is = c.in_ok-bag.ensures.bag ∙ ap (replayed c.self.inside.bag) c.as_slice-2.ensures.value in
+    rebuilds _ c.args.changes.items c.in_ok-bag.bag c.in_ok-whole.whole _ c.self.invariant.0 rise taken bag_is
+    (whole_change c.self.inside.bag c.in_ok-bag.bag c.args.changes.items c.in_ok-whole.whole c.self.invariant.0.bag.rises rise taken bag_is
+    (subst Does c.as_slice-3.ensures.value c.in_ok-whole.ensures))
+    c.self.invariant.1
+
+pub joined_change-requires : goal.joined_change-requires
+joined_change-requires c =
+    let Some : List (List Entry) → Type 0 = λ ess. 0 < length ess in
+    let some : length c.args.changes.items ≡ 0 → ⊥ =
+    λ none.
+    let vec_none : vec_len c.args.changes ≡ 0 = omega (arith, none, c.args.changes.ok.0) in
+    eqb-false (vec_len c.args.changes) 0 (sym c.is_empty.ensures ∙ c.if-is_empty.false) vec_none in
+    record { some = subst Some (sym c.as_slice-3.ensures.value) (omega (arith, some)) }
 
 -- the store inside, before the changes and after them
 abbrev inside : After-clear → State
@@ -42,6 +56,19 @@ inside c = record {
 
 bag_is : (c : After-clear) → c.in_ok-bag.bag ≡ replayed c.self.inside.bag c.args.changes.items
 bag_is c = c.in_ok-bag.ensures.bag ∙ ap (replayed c.self.inside.bag) c.as_slice-2.ensures.value
+
+rise : (c : After-clear) → All IsChangeList c.args.changes.items
+rise c =
+    let Rise : List (List Entry) → Type 0 = λ ess. All IsChangeList ess in
+    subst Rise c.as_slice.ensures.value c.in_ok-test_recordable.ensures.rise
+
+whole_is : (c : After-clear) → c.in_ok-whole.whole ≡ change_between c.self.inside.bag.held c.in_ok-bag.bag.held
+whole_is c =
+    let Taken : List (List Entry) → Type 0 = λ ess. replay_refusal c.self.inside.bag ess ≡ None in
+    let Does : List (List Entry) → Type 0 = λ ess. DoesAll ess c.in_ok-whole.whole in
+    whole_change c.self.inside.bag c.in_ok-bag.bag c.args.changes.items c.in_ok-whole.whole c.self.invariant.0.bag.rises (rise c)
+    (subst Taken c.as_slice-2.ensures.value c.in_ok-bag.ensures.accepted) (bag_is c)
+    (subst Does c.as_slice-3.ensures.value c.in_ok-whole.ensures)
 
 done_is : (c : After-clear) → c.append_within.new.to.items ≡ c.self.inside.done.items ++ c.args.changes.items
 done_is c = c.append_within.ensures ∙ ap (λ (ess : List (List Entry)). ess ++ c.args.changes.items) c.in_ok-make_room.ensures.stay
@@ -68,14 +95,12 @@ pub invariant_of-self-2 : goal.invariant_of-self-2
 invariant_of-self-2 c =
     let d = (goal.at-invariant_of-self-2 c).After-clear in
     let Stands : State → Type 0 = λ s. IsStore s in
-    let Rise : List (List Entry) → Type 0 = λ ess. All IsChangeList ess in
     let parts =
     given_parts (inside d) c.args.changes.items c.in_ok-bag.bag c.append_within.new.to.items c.clear.new.self.items
     c.changed_face_count-self-inside.result (bag_is d) (done_is d) c.clear.ensures.items
-    (c.changed_face_count-self-inside.ensures ∙ ap faces_of c.in_ok-whole.ensures) in (
+    (c.changed_face_count-self-inside.ensures ∙ ap faces_of (whole_is d)) in (
       subst Stands (sym parts)
-          (given_keeps (inside d) c.args.changes.items c.self.invariant.0
-          (subst Rise c.as_slice.ensures.value c.in_ok-test_recordable.ensures.rise) (accepted d)),
+          (given_keeps (inside d) c.args.changes.items c.self.invariant.0 (rise d) (accepted d)),
       c.in_ok-rebuild_for.ensures.table,
     )
 
@@ -84,6 +109,26 @@ returns-clause-state c =
     let d = (goal.at-returns-clause-state c).After-clear in
     given_parts (inside d) c.args.changes.items c.in_ok-bag.bag c.append_within.new.to.items c.clear.new.self.items
     c.changed_face_count-self-inside.result (bag_is d) (done_is d) c.clear.ensures.items
-    (c.changed_face_count-self-inside.ensures ∙ ap faces_of c.in_ok-whole.ensures)
+    (c.changed_face_count-self-inside.ensures ∙ ap faces_of (whole_is d))
     ∙ apply_some (inside d) c.args.changes.items (some d)
     ∙ ap (λ (s : State). after_apply s c.args.changes.items) c.self.view_is
+
+pub returns-clause-history : goal.returns-clause-history
+returns-clause-history c =
+    let d = (goal.at-returns-clause-history c).After-clear in
+    ap history_of
+    (given_parts (inside d) c.args.changes.items c.in_ok-bag.bag c.append_within.new.to.items c.clear.new.self.items
+    c.changed_face_count-self-inside.result (bag_is d) (done_is d) c.clear.ensures.items
+    (c.changed_face_count-self-inside.ensures ∙ ap faces_of (whole_is d))
+    ∙ apply_some (inside d) c.args.changes.items (some d))
+    ∙ history_after_apply (inside d) c.args.changes.items c.self.invariant.0 (rise d) (accepted d)
+    ∙ ap (λ (s : State). with_changes c.args.changes.items (history_of s)) c.self.view_is
+
+pub returns-clause-number : goal.returns-clause-number
+returns-clause-number c =
+    let d = (goal.at-returns-clause-number c).After-clear in
+    ap length
+    (c.entries.ensures.list
+    ∙ whole_is d
+    ∙ ap (λ (bag : LimitedCollection). change_between c.self.inside.bag.held bag.held) (bag_is d))
+    ∙ ap (λ (s : State). apply_size s c.args.changes.items) c.self.view_is

@@ -1,16 +1,51 @@
-use Rattle.std.proofs.Common.{◌≡◌, ◌-◌, ◌<◌, length, sym, ap, ◌∙◌, subst, arith}
+use Rattle.std.proofs.Common.{◌≡◌, ℕ, ◌-◌, ◌<◌, ◌≤◌, length, sym, ap, ◌∙◌, subst, arith}
 use Rattle.s2ix_edit_plan.specs.State.{State, history_of}
 use Rattle.s2ix_edit.specs.Shortened.{with_joined}
 use Rattle.s2ix_edit.specs.Steps.{after_join, joined_last}
 use Rattle.s2ix_edit.specs.Store.{IsStore}
-use Rattle.s2ix_edit.proofs.Joined.{history_after_join, join_keeps, joins_last, last_has_place, last_led, replaces_last}
+use Rattle.s2ix_edit.proofs.Joined.{history_after_join, join_keeps, last_has_place, replaces_last}
+use Rattle.s2ix_edit.proofs.Joins.{few_sized, few_stay, joins_last, last_some}
 use Rattle.s2ix_edit.proofs.store.Store.join.Goals.{After-replace_from}
 use Rattle.s2ix_edit.proofs.store.Store.join.Goals as goal
+
+-- ---- at most one change
+
+few_returned : (s t : State) (last : ℕ) → IsStore s → s ≡ t → last < 2 → last ≤ length s.done
+    → (t ≡ after_join t last) × (history_of t ≡ with_joined last (history_of t))
+few_returned s t last st is few within =
+    let Stands : State → Type 0 = λ x. IsStore x in
+    let Within : State → Type 0 = λ x. last ≤ length x.done in
+    let t_is = subst Stands is st in
+    let stays = sym (few_stay t last t_is (omega (arith, few)) (subst Within is within)) in (
+      stays,
+      ap history_of stays ∙ history_after_join t last t_is,
+    )
+
+pub returns-then-last-lt2-clause-state : goal.returns-then-last-lt2-clause-state
+returns-then-last-lt2-clause-state c =
+    let many : c.len-number.result ≡ length c.self.inside.done.items = omega (arith, c.len-number.ensures, c.self.inside.done.ok.0) in
+    (few_returned _ _ c.args.last c.self.invariant.0 c.self.view_is (omega arith) (omega (arith, many))).0
+
+pub returns-then-last-lt2-clause-history : goal.returns-then-last-lt2-clause-history
+returns-then-last-lt2-clause-history c =
+    let many : c.len-number.result ≡ length c.self.inside.done.items = omega (arith, c.len-number.ensures, c.self.inside.done.ok.0) in
+    (few_returned _ _ c.args.last c.self.invariant.0 c.self.view_is (omega arith) (omega (arith, many))).1
+
+pub returns-then-last-lt2-clause-number : goal.returns-then-last-lt2-clause-number
+returns-then-last-lt2-clause-number c =
+    let many : c.len-number.result ≡ length c.self.inside.done.items = omega (arith, c.len-number.ensures, c.self.inside.done.ok.0) in
+    few_sized _ c.deref.result.now c.len-number.result c.args.last c.first_size.result c.self.invariant.0 c.deref.ensures.value many
+    (omega arith) (omega (arith, many)) c.first_size.ensures
+    ∙ ap (λ (s : State). length (joined_last s c.args.last)) c.self.view_is
+
+-- ---- more changes
 
 pub joined_change-requires : goal.joined_change-requires
 joined_change-requires c =
     let many : c.len-number.result ≡ length c.self.inside.done.items = omega (arith, c.len-number.ensures, c.self.inside.done.ok.0) in
-    record { led = last_led _ c.deref.result.now c.len-number.result c.args.last c.self.invariant.0 c.deref.ensures.value many }
+    record {
+      some = last_some _ c.deref-2.result.now c.len-number.result c.args.last c.deref-2.ensures.value many (omega arith) (omega arith);
+    }
 
 pub replace_from-requires : goal.replace_from-requires
 replace_from-requires c =
@@ -23,7 +58,7 @@ replace_from-requires c =
     } in
     let many : c.len-number.result ≡ length c.self.inside.done.items = omega (arith, c.len-number.ensures, c.self.inside.done.ok.0) in
     let joins =
-    joins_last inside c.deref.result.now c.len-number.result c.args.last c.in_ok-change.change c.deref.ensures.value many
+    joins_last inside c.deref-2.result.now c.len-number.result c.args.last c.in_ok-change.change c.self.invariant.0 c.deref-2.ensures.value many
     c.in_ok-change.ensures in
     record {
       some = λ some.
@@ -46,7 +81,7 @@ many c = omega (arith, c.len-number.ensures, c.self.inside.done.ok.0)
 
 joins : (c : After-replace_from) → c.in_ok-change.change ≡ joined_last (inside c) c.args.last
 joins c =
-    joins_last (inside c) c.deref.result.now c.len-number.result c.args.last c.in_ok-change.change c.deref.ensures.value (many c)
+    joins_last (inside c) c.deref-2.result.now c.len-number.result c.args.last c.in_ok-change.change c.self.invariant.0 c.deref-2.ensures.value (many c)
     c.in_ok-change.ensures
 
 after : (c : After-replace_from) → ◌≡◌ {A = State}
