@@ -7,8 +7,9 @@
 
    A call that gives a list takes a buffer with room for `room` items, and sets *number to how many items the list has. If the buffer has
    room for all, the call puts them at its front; else the status is S2IX_NO_ROOM and the buffer stays as it was. A call refused for another
-   reason sets *number to 0, with one exception: if a call that takes a list of rows or cells finds a wrong one, *number is the place of the
-   first, counted from 0; with two lists the places count on through the second.
+   reason sets *number to 0, with one exception: if a call that takes a list of rows, entries or cells finds a wrong one, *number is the
+   place of the first, counted from 0; with two lists the places count on through the second. s2ix_remove_all and s2ix_record tell the place
+   for further statuses too.
 
    There may be several reasons to refuse a call. An edit tells of a wrong cell or label first, then of a closed handle; any other call tells
    of a closed handle first. S2IX_OUT_OF_MEMORY comes after these. If memory is refused, it may come in place of a reason that the call has
@@ -16,11 +17,12 @@
 
    - in a call that names both statuses, S2IX_NO_ROOM;
    - in an edit, S2IX_NO_CHANGE, S2IX_TOO_MANY_COPIES or S2IX_TOO_MANY_PAIRS;
-   - in s2ix_add_all and s2ix_add_union, S2IX_JOURNAL_FULL too;
+   - in s2ix_add_all, s2ix_remove_all, s2ix_add_union and s2ix_record, S2IX_JOURNAL_FULL too;
+   - in s2ix_remove_all, S2IX_NOT_HELD too, and in s2ix_record, S2IX_MISMATCH;
    - in s2ix_load, s2ix_replay, s2ix_rewind and s2ix_resume, whatever is wrong after the dump's first line;
    - in s2ix_apply, whatever is wrong after the journal's first line.
 
-   A call wants no memory if it is given no rows or cells, a label that is not held, equal bounds, or a page with no room. The
+   A call wants no memory if it is given no rows, entries or cells, a label that is not held, equal bounds, or a page with no room. The
    exception is s2ix_line, which may want memory for any query.
 
    You must ensure this, since no call can check it:
@@ -29,7 +31,7 @@
    - The calls on one handle are ordered by a lock, a thread's start or join, or a sequentially consistent atomic. In C11 acquire and
      release order them too, but the library's proof does not cover that.
    - Each pointer is aligned and points to as many initialised items as the call says. None is NULL, not even a pointer to no items.
-   - What a call writes overlaps nothing else that it is given, so never give s2ix_copy one handle twice.
+   - What a call writes overlaps nothing else that it is given, so never give s2ix_copy or s2ix_difference one handle twice.
    - malloc, realloc and free belong to one allocator.
    - No call is made in a signal handler, or in the forked child of a process with threads. */
 #ifndef S2IX_H
@@ -71,6 +73,13 @@ typedef struct s2ix_entry {
     uint32_t after;
 } s2ix_entry;
 
+/* A label that is held: how many pairs have it, and the sum of their counts. */
+typedef struct s2ix_held_label {
+    uint32_t label;
+    uint32_t pairs;
+    uint64_t copies;
+} s2ix_held_label;
+
 enum s2ix_status {
     S2IX_DONE = 0,
     S2IX_CLOSED = 1,          /* the handle is closed */
@@ -86,7 +95,7 @@ enum s2ix_status {
     S2IX_NO_SUCH_LABEL = 17,  /* no pair of the label is held */
     S2IX_NOT_HELD = 18,       /* too few copies held */
     S2IX_TOO_FINE = 19,       /* the level is above 30, or more than 8 above that of the cell, or of a cell of the label */
-    S2IX_NO_SUCH_CHANGE = 20, /* the number is 0, or above that of the changes to undo */
+    S2IX_NO_SUCH_CHANGE = 20, /* no change that can be undone has the number */
     S2IX_BELOW_ZERO = 21,     /* a count would be below 0 */
     S2IX_NO_CHANGE = 22,      /* nothing would change */
     S2IX_TOO_MANY_COPIES = 23,
@@ -96,7 +105,9 @@ enum s2ix_status {
     S2IX_NO_RANGE = 27,       /* no range is at the place; or none on the side that is asked for has a pair over it */
     S2IX_NO_JOURNAL = 28,     /* the text is no journal under the limits */
     S2IX_MISMATCH = 29,       /* a change has another count of a pair than is held */
-    S2IX_TOO_FEW_CHANGES = 30 /* fewer changes can be undone than are to be joined */
+    S2IX_TOO_FEW_CHANGES = 30, /* fewer changes can be undone than are to be joined */
+    S2IX_UNSORTED = 31,       /* an entry of a list is not above the one before it */
+    S2IX_NO_DIFFERENCE = 32   /* the two counts of an entry of a list are equal */
 };
 
 /* What a status means, in words, as *number bytes with no zero after them; 64 bytes are room enough. S2IX_NO_ROOM. */
@@ -158,6 +169,12 @@ uint32_t s2ix_add_all(s2ix_handle *handle, const s2ix_row *rows, size_t len, siz
 /* Takes copies from the count of a cell under a label. S2IX_NO_CELL, S2IX_NO_LABEL, S2IX_NOT_HELD. */
 uint32_t s2ix_remove(s2ix_handle *handle, uint64_t cell, uint32_t label, uint32_t copies, size_t *number);
 
+/* Takes the count of each row from that of its cell under its label, as one change. Rows come in any order, and repeated ones add up; one of
+   count 0 takes nothing. All are taken, or none. If a row's cell or label is wrong, *number is the place of the first such row, counted from
+   0. For S2IX_NOT_HELD it is the place of the first row that takes more copies than the rows before it leave. O(m log m) for m rows, besides
+   the time of an edit, and O(log m) times that for S2IX_NOT_HELD. S2IX_NO_CELL, S2IX_NO_LABEL, S2IX_NOT_HELD. */
+uint32_t s2ix_remove_all(s2ix_handle *handle, const s2ix_row *rows, size_t len, size_t *number);
+
 /* Adds one copy under a label for each cell of the normal form of a union: four siblings become their parent, and a cell within another
    is left out; s2ix_add_all adds cells as they are. A wrong label comes before a wrong cell. S2IX_NO_CELL, S2IX_NO_LABEL. */
 uint32_t s2ix_add_union(s2ix_handle *handle, const uint64_t *cells, size_t len, uint32_t label, size_t *number);
@@ -179,6 +196,14 @@ uint32_t s2ix_normalise_label(s2ix_handle *handle, uint32_t label, size_t *numbe
    S2IX_NO_SUCH_CHANGE, S2IX_BELOW_ZERO. */
 uint32_t s2ix_revert(s2ix_handle *handle, uint32_t change, size_t *number);
 
+/* Does a change that is given by its entries, in the order of s2ix_change: by rising cell, then label, each pair once. In each, `before` is
+   the count that is held, and `after` is another one, which replaces it. A wrong cell or label decides before all else; then S2IX_UNSORTED,
+   an entry is not above the one before it; then S2IX_NO_DIFFERENCE, its two counts are equal; and after a closed handle and a full journal
+   S2IX_MISMATCH, its count before is not the one that is held. For each of these *number is the place of the first such entry, counted from
+   0. No entries are S2IX_NO_CHANGE, after a closed handle and a full journal. O(m) for m entries, besides the time of an edit.
+   S2IX_NO_CELL, S2IX_NO_LABEL, S2IX_UNSORTED, S2IX_NO_DIFFERENCE, S2IX_MISMATCH. */
+uint32_t s2ix_record(s2ix_handle *handle, const s2ix_entry *entries, size_t len, size_t *number);
+
 /* Takes the last change back; *number is how many pairs it had. It takes the time of an edit. S2IX_CLOSED, S2IX_NOTHING_TO_UNDO,
    S2IX_OUT_OF_MEMORY. */
 uint32_t s2ix_undo(s2ix_handle *handle, size_t *number);
@@ -189,13 +214,14 @@ uint32_t s2ix_redo(s2ix_handle *handle, size_t *number);
 /* Does the changes of a journal, which another store did from the same pairs on. Each can be undone by itself, and what could be redone is
    gone, unless there are no changes. All are done, or none. *number is how many pairs have another count than before. What is wrong first
    decides: a line of the journal under the store's limits, S2IX_JOURNAL_FULL, or a change; *place and *entry tell of it as in s2ix_replay.
-   O(n + m log n) for n bytes and pairs and m entries. S2IX_CLOSED, S2IX_NO_JOURNAL, S2IX_JOURNAL_FULL, S2IX_MISMATCH, S2IX_TOO_MANY_COPIES,
-   S2IX_TOO_MANY_PAIRS, S2IX_OUT_OF_MEMORY. */
+   O(b + m log n) for b bytes and m entries, besides the time of an edit. S2IX_CLOSED, S2IX_NO_JOURNAL, S2IX_JOURNAL_FULL, S2IX_MISMATCH,
+   S2IX_TOO_MANY_COPIES, S2IX_TOO_MANY_PAIRS, S2IX_OUT_OF_MEMORY. */
 uint32_t s2ix_apply(s2ix_handle *handle, const uint8_t *journal, size_t len, size_t *number, size_t *place, size_t *entry);
 
 /* Makes one change of the last ones that can be undone, so many of them: one undo then takes them back together. *number is how many pairs
    have another count than before them; if none has, the changes are gone. What is held stays, and so does what can be redone.
-   O(n + m log n) for m entries. S2IX_CLOSED, S2IX_TOO_FEW_CHANGES, S2IX_OUT_OF_MEMORY. */
+   With `last` 0 or 1 nothing changes, and it does not allocate. O(m log k) for m entries in k changes. S2IX_CLOSED, S2IX_TOO_FEW_CHANGES,
+   S2IX_OUT_OF_MEMORY. */
 uint32_t s2ix_join(s2ix_handle *handle, size_t last, size_t *number);
 
 /* Keeps what is held and drops all changes: nothing is left to undo or redo. O(k) for k changes. S2IX_CLOSED. */
@@ -235,6 +261,10 @@ uint32_t s2ix_region(s2ix_handle *handle, uint32_t label, uint64_t *cells, size_
    */
 uint32_t s2ix_of_label(s2ix_handle *handle, uint32_t label, s2ix_row *rows, size_t room, size_t *number);
 
+/* The labels that are held, rising, each once. It does not allocate if no pair is held. O(n log n). S2IX_CLOSED, S2IX_NO_ROOM,
+   S2IX_OUT_OF_MEMORY. */
+uint32_t s2ix_held_labels(s2ix_handle *handle, s2ix_held_label *labels, size_t room, size_t *number);
+
 /* A page of all pairs, in rising order of cell, then label: those from the place `from` on, counted from 0, as many as there is room for.
    It never returns S2IX_NO_ROOM. *number is how many pairs are put: 0 if there is none at the place. An edit moves the places of the pairs
    after those that it changes. O(k log n) for k pairs put. S2IX_CLOSED. */
@@ -256,6 +286,11 @@ uint32_t s2ix_undone_count(s2ix_handle *handle, size_t *number);
 /* The entries of a change by its number, as in s2ix_revert: by rising cell, then label. It does not allocate.
    O(k) for k entries. S2IX_CLOSED, S2IX_NO_SUCH_CHANGE, S2IX_NO_ROOM. */
 uint32_t s2ix_change(s2ix_handle *handle, uint32_t change, s2ix_entry *entries, size_t room, size_t *number);
+
+/* The entries that lead from what one store holds to what another does: exactly the pairs whose counts differ, by rising cell, then label,
+   with the count in either store. Neither changes, and their changes are not looked at. O(n + m) for the n and m pairs that they hold.
+   S2IX_CLOSED, also if only one of the handles is closed; S2IX_NO_ROOM, S2IX_OUT_OF_MEMORY. */
+uint32_t s2ix_difference(s2ix_handle *before, s2ix_handle *after, s2ix_entry *entries, size_t room, size_t *number);
 
 /* On how many faces, 0 to 6, the last accepted edit, undo, redo or s2ix_apply changed pairs. O(1). S2IX_CLOSED. */
 uint32_t s2ix_faces_rebuilt(s2ix_handle *handle, size_t *number);
@@ -291,6 +326,11 @@ uint32_t s2ix_dump(s2ix_handle *handle, uint8_t *text, size_t room, size_t *numb
 /* The journal of the changes that can be undone, the oldest first, as bytes (FORMATS.md). O(n) for n entries. S2IX_CLOSED,
    S2IX_NO_ROOM, S2IX_OUT_OF_MEMORY. */
 uint32_t s2ix_journal(s2ix_handle *handle, uint8_t *text, size_t room, size_t *number);
+
+/* The journal of the changes that can be undone from the one with a number on, as in s2ix_revert: what a store asks for that has done
+   those before it. If the number is one more than that of the last, it is the journal of no changes. O(n) for n entries in these changes.
+   S2IX_CLOSED, S2IX_NO_SUCH_CHANGE, S2IX_NO_ROOM, S2IX_OUT_OF_MEMORY. */
+uint32_t s2ix_journal_from(s2ix_handle *handle, uint32_t change, uint8_t *text, size_t room, size_t *number);
 
 /* The export of what is held: one line of compact JSON with no line feed (FORMATS.md). O(n), some 200 bytes a pair while it is made.
    S2IX_CLOSED, S2IX_NO_ROOM, S2IX_OUT_OF_MEMORY. */

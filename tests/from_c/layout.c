@@ -28,6 +28,10 @@ FIELD(s2ix_entry, label, 8, uint32_t);
 FIELD(s2ix_entry, before, 12, uint32_t);
 FIELD(s2ix_entry, after, 16, uint32_t);
 SIZE(s2ix_entry, 24);
+FIELD(s2ix_held_label, label, 0, uint32_t);
+FIELD(s2ix_held_label, pairs, 4, uint32_t);
+FIELD(s2ix_held_label, copies, 8, uint64_t);
+SIZE(s2ix_held_label, 16);
 FIELD(s2ix_square, i, 0, uint32_t);
 FIELD(s2ix_square, j, 4, uint32_t);
 FIELD(s2ix_square, face, 8, uint8_t);
@@ -60,12 +64,13 @@ static uint64_t bytes_at(const void *object, size_t at, size_t size) {
 
 static const uint64_t cell = 0x0400000000000000, leaf = 0x0400000000000001;
 
-/* A pair with 5 copies of label 9, by each call that puts rows, and two changes of it. */
+/* A pair with 5 copies of label 9, by each call that puts or takes rows, and changes of it. */
 static void rows_and_entries(void) {
     s2ix_handle handle = {0};
     size_t number;
     s2ix_row added = {0}, row = {0};
     s2ix_entry entry = {0};
+    s2ix_held_label held = {0};
     const uint32_t label = 9, count = 5;
     memcpy((char *)&added, &cell, 8);
     memcpy((char *)&added + 8, &label, 4);
@@ -90,10 +95,18 @@ static void rows_and_entries(void) {
     memset(&row, 0, sizeof row);
     EXPECT(s2ix_contents(&handle, 0, 0, &row, 1, &number), S2IX_DONE);
     EXPECT_ROW(&row, cell, 9, 5);
+    EXPECT(s2ix_held_labels(&handle, &held, 1, &number), S2IX_DONE);
+    EXPECT(bytes_at(&held, 0, 4), 9);
+    EXPECT(bytes_at(&held, 4, 4), 1);
+    EXPECT(bytes_at(&held, 8, 8), 5);
     EXPECT(s2ix_remove(&handle, cell, 9, 2, &number), S2IX_DONE);
     EXPECT(s2ix_change(&handle, 2, &entry, 1, &number), S2IX_DONE);
     EXPECT_ROW(&entry, cell, 9, 5);
     EXPECT(bytes_at(&entry, 16, 4), 3);
+    EXPECT(s2ix_undo(&handle, &number), S2IX_DONE);
+    EXPECT(s2ix_remove_all(&handle, &added, 1, &number), S2IX_DONE);
+    EXPECT(s2ix_undo(&handle, &number), S2IX_DONE);
+    EXPECT(s2ix_record(&handle, &entry, 1, &number), S2IX_DONE);
     /* (the limits are of copies, then of changes) */
     EXPECT(s2ix_add(&handle, cell, 9, 5, &number), S2IX_TOO_MANY_COPIES);
     EXPECT(s2ix_add(&handle, cell, 9, 4, &number), S2IX_DONE);

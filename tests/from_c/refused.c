@@ -29,6 +29,12 @@ static const char onwards[] = "s2ix-journal 2\nchange 2\n04 7 1 3\n1c 7 0 1\nend
 static const char up_to[] = "s2ix-journal 2\nchange 2\n04 7 0 1\n0c 7 2 1\nend 1\n";
 static const s2ix_row rows[] = {{0x1000000000000000, 7, 1}, {0x0400000000000000, 7, 2}, {0x1000000000000000, 7, 1}};
 static const s2ix_row wrong_rows[] = {{0x1000000000000000, 7, 1}, {0x0400000000000000, 7, 2}, {0x1000000000000000, 0x80000000, 1}};
+/* Pairs that are held more than once over, and a change on two faces. */
+static const s2ix_row held_rows[] = {{0x0c00000000000000, 7, 1}, {0x0400000000000001, 8, 1}, {0x0400000000000001, 8, 1}};
+static const s2ix_entry entries[] = {{0x0400000000000000, 7, 1, 3}, {0x1000000000000000, 7, 0, 1}, {0x3000000000000000, 9, 0, 1}};
+static const s2ix_entry wrong_entries[] = {{0x0400000000000000, 7, 1, 3}, {0x1000000000000000, 0x80000000, 0, 1}, {6, 9, 0, 1}};
+static const s2ix_entry turned_entries[] = {{0x3000000000000000, 9, 0, 1}, {0x0400000000000000, 7, 1, 3}};
+static const s2ix_entry equal_entries[] = {{0x0400000000000000, 7, 1, 3}, {0x1000000000000000, 7, 1, 1}};
 static const uint64_t wrong_cells[] = {0x0c00000000000000, 0x0400000000000000, 0};
 
 /* What a call told: its number, and what it put. */
@@ -40,6 +46,7 @@ typedef struct told {
         uint64_t cells[ROOM / sizeof(uint64_t)];
         uint32_t labels[ROOM / sizeof(uint32_t)];
         s2ix_entry entries[ROOM / sizeof(s2ix_entry)];
+        s2ix_held_label held_labels[ROOM / sizeof(s2ix_held_label)];
     };
 } told;
 
@@ -50,6 +57,8 @@ typedef uint32_t call(s2ix_handle *handle, s2ix_handle *other, told *told);
 #define ROWS told->rows, sizeof told->rows / sizeof *told->rows
 #define CELLS told->cells, sizeof told->cells / sizeof *told->cells
 #define LABELS told->labels, sizeof told->labels / sizeof *told->labels
+#define HELD_LABELS told->held_labels, sizeof told->held_labels / sizeof *told->held_labels
+#define ENTRIES told->entries, sizeof told->entries / sizeof *told->entries
 #define TEXT(text) (const uint8_t *)text, sizeof text - 1
 
 CALL(opens) { return (void)handle, (void)told, s2ix_open(other, 9, 9, 9); }
@@ -86,6 +95,8 @@ CALL(copies) { return (void)told, s2ix_copy(handle, other); }
 CALL(adds) { return (void)other, s2ix_add(handle, face, 1, 1, &told->number); }
 CALL(adds_all) { return (void)other, s2ix_add_all(handle, rows, 3, &told->number); }
 CALL(removes) { return (void)other, s2ix_remove(handle, first, 7, 1, &told->number); }
+CALL(removes_all) { return (void)other, s2ix_remove_all(handle, held_rows, 3, &told->number); }
+CALL(records) { return (void)other, s2ix_record(handle, entries, 3, &told->number); }
 CALL(adds_union) { return (void)other, s2ix_add_union(handle, two, 2, 6, &told->number); }
 CALL(drops) { return (void)other, s2ix_drop_label(handle, 7, &told->number); }
 CALL(relabels) { return (void)other, s2ix_relabel(handle, 7, 9, &told->number); }
@@ -101,6 +112,9 @@ CALL(labels) { return (void)other, s2ix_labels(handle, &face, 1, LABELS, &told->
 CALL(region) { return (void)other, s2ix_region(handle, 7, CELLS, &told->number); }
 CALL(dumps) { return (void)other, s2ix_dump(handle, told->bytes, ROOM, &told->number); }
 CALL(journals) { return (void)other, s2ix_journal(handle, told->bytes, ROOM, &told->number); }
+CALL(journals_from) { return (void)other, s2ix_journal_from(handle, 2, told->bytes, ROOM, &told->number); }
+CALL(held_labels) { return (void)other, s2ix_held_labels(handle, HELD_LABELS, &told->number); }
+CALL(compares) { return s2ix_difference(handle, other, ENTRIES, &told->number); }
 CALL(exports) { return (void)other, s2ix_export(handle, told->bytes, ROOM, &told->number); }
 CALL(adds_by_line) { return (void)other, s2ix_line(handle, TEXT(add_line), told->bytes, ROOM, &told->number); }
 CALL(asks_by_line) { return (void)other, s2ix_line(handle, TEXT(meet_line), told->bytes, ROOM, &told->number); }
@@ -135,6 +149,20 @@ CALL(adds_row_to_closed) {
     s2ix_handle closed = {0};
     return (void)handle, (void)other, due(s2ix_add_all(&closed, rows, 3, &told->number), S2IX_CLOSED);
 }
+CALL(removes_no_row) { return (void)other, due(s2ix_remove_all(handle, held_rows, 0, &told->number), S2IX_NO_CHANGE); }
+CALL(removes_wrong_row) { return (void)other, due(s2ix_remove_all(handle, wrong_rows, 3, &told->number), S2IX_NO_LABEL); }
+CALL(removes_row_of_closed) {
+    s2ix_handle closed = {0};
+    return (void)handle, (void)other, due(s2ix_remove_all(&closed, held_rows, 3, &told->number), S2IX_CLOSED);
+}
+CALL(records_no_entry) { return (void)other, due(s2ix_record(handle, entries, 0, &told->number), S2IX_NO_CHANGE); }
+CALL(records_wrong_entry) { return (void)other, due(s2ix_record(handle, wrong_entries, 3, &told->number), S2IX_NO_LABEL); }
+CALL(records_turned_entries) { return (void)other, due(s2ix_record(handle, turned_entries, 2, &told->number), S2IX_UNSORTED); }
+CALL(records_equal_counts) { return (void)other, due(s2ix_record(handle, equal_entries, 2, &told->number), S2IX_NO_DIFFERENCE); }
+CALL(records_on_closed) {
+    s2ix_handle closed = {0};
+    return (void)handle, (void)other, due(s2ix_record(&closed, entries, 3, &told->number), S2IX_CLOSED);
+}
 CALL(adds_no_copy) { return (void)other, due(s2ix_add(handle, first, 7, 0, &told->number), S2IX_NO_CHANGE); }
 CALL(adds_no_cell) { return (void)other, due(s2ix_add_union(handle, two, 0, 6, &told->number), S2IX_NO_CHANGE); }
 CALL(adds_wrong_label) { return (void)other, due(s2ix_add_union(handle, two, 2, 0x80000000, &told->number), S2IX_NO_LABEL); }
@@ -147,12 +175,20 @@ CALL(adds_without_room) { return (void)other, due(s2ix_line(handle, TEXT(add_lin
 CALL(undoes_without_room) { return (void)other, due(s2ix_line(handle, TEXT("undo"), told->bytes, 31, &told->number), S2IX_NO_ROOM); }
 CALL(redoes_without_room) { return (void)other, due(s2ix_line(handle, TEXT("redo"), told->bytes, 31, &told->number), S2IX_NO_ROOM); }
 
+CALL(journals_from_none) {
+    return (void)other, due(s2ix_journal_from(handle, 4, told->bytes, ROOM, &told->number), S2IX_NO_SUCH_CHANGE);
+}
+CALL(compares_with_closed) {
+    s2ix_handle closed = {0};
+    return (void)other, due(s2ix_difference(handle, &closed, ENTRIES, &told->number), S2IX_CLOSED);
+}
+
 /* Calls that do not allocate. */
 CALL(of_label) { return (void)other, s2ix_of_label(handle, 7, ROWS, &told->number); }
 CALL(contents) { return (void)other, s2ix_contents(handle, 1, 0, ROWS, &told->number); }
 CALL(at) { return (void)other, s2ix_at(handle, leaf, ROWS, &told->number); }
 CALL(pairs) { return (void)other, s2ix_pairs(handle, 0, ROWS, &told->number); }
-CALL(change) { return (void)other, s2ix_change(handle, 1, told->entries, sizeof told->entries / sizeof *told->entries, &told->number); }
+CALL(change) { return (void)other, s2ix_change(handle, 1, ENTRIES, &told->number); }
 CALL(range) {
     bool is_empty = true;
     uint32_t status = s2ix_range(handle, 1, told->cells, told->cells + 1, &is_empty);
@@ -165,6 +201,7 @@ CALL(finds) { return (void)other, s2ix_find(handle, leaf, &told->number, told->c
 CALL(counts) { return (void)other, s2ix_count(handle, first, 7, told->labels); }
 CALL(forgets) { return (void)other, (void)told, s2ix_forget(handle); }
 CALL(forgets_older) { return (void)other, (void)told, s2ix_forget_older(handle, 1); }
+CALL(joins_one) { return (void)other, s2ix_join(handle, 1, &told->number); }
 CALL(joins_too_many) { return (void)other, due(s2ix_join(handle, 3, &told->number), S2IX_TOO_FEW_CHANGES); }
 CALL(applies_to_closed) {
     s2ix_handle closed = {0};
@@ -228,6 +265,8 @@ static const struct {
     {"add", adds, true},
     {"add_all", adds_all, true},
     {"remove", removes, true},
+    {"remove_all", removes_all, true},
+    {"record", records, true},
     {"add_union", adds_union, true},
     {"drop_label", drops, true},
     {"relabel", relabels, true},
@@ -243,6 +282,9 @@ static const struct {
     {"region", region, true},
     {"dump", dumps, true},
     {"journal", journals, true},
+    {"journal_from", journals_from, true},
+    {"held_labels", held_labels, true},
+    {"difference", compares, true},
     {"export", exports, true},
     {"line of an edit", adds_by_line, true},
     {"line of a query", asks_by_line, true},
@@ -258,6 +300,14 @@ static const struct {
     {"add_all of no row", adds_no_row, false},
     {"add_all of a wrong row", adds_wrong_row, false},
     {"add_all to a closed handle", adds_row_to_closed, false},
+    {"remove_all of no row", removes_no_row, false},
+    {"remove_all of a wrong row", removes_wrong_row, false},
+    {"remove_all of a closed handle", removes_row_of_closed, false},
+    {"record of no entry", records_no_entry, false},
+    {"record of a wrong entry", records_wrong_entry, false},
+    {"record of entries in the wrong order", records_turned_entries, false},
+    {"record of equal counts", records_equal_counts, false},
+    {"record on a closed handle", records_on_closed, false},
     {"add of no copy", adds_no_copy, false},
     {"add_union of no cell", adds_no_cell, false},
     {"add_union of a wrong label", adds_wrong_label, false},
@@ -273,6 +323,8 @@ static const struct {
     {"at", at, false},
     {"pairs", pairs, false},
     {"change", change, false},
+    {"journal from no change", journals_from_none, false},
+    {"difference to a closed handle", compares_with_closed, false},
     {"range", range, false},
     {"next_full", next_full, false},
     {"previous_full", previous_full, false},
@@ -280,6 +332,7 @@ static const struct {
     {"count", counts, false},
     {"forget", forgets, false},
     {"forget_older", forgets_older, false},
+    {"join of one change", joins_one, false},
     {"join of too many", joins_too_many, false},
     {"apply to a closed handle", applies_to_closed, false},
     {"close", closes_other, false},
@@ -287,6 +340,7 @@ static const struct {
     /* The handle's store is empty. */
     {"copy of an empty store", copies, true},
     {"clear of an empty store", clears, true},
+    {"held_labels of an empty store", held_labels, false},
 };
 
 /* All that a store shows: what it holds, its changes that can be undone, and how many can be redone. */

@@ -9,7 +9,10 @@ use Rattle.s2ix_text_write.specs.Dump.{IsDump}
 use Rattle.s2ix_text.specs.declared.dump_error.DumpError.TheVariants.{OutOfMemory}
 use Rattle.s2ix_text.specs.declared.dump_error.DumpFault.{DumpFault}
 use Rattle.s2ix_text.specs.DumpFaults.{IsDumpError, dump_fault}
+use Rattle.s2ix_c_calls.specs.declared.changes.EntryRow.{EntryRow}
 use Rattle.s2ix_c_calls.specs.declared.rows.Row.{Row}
+use Rattle.s2ix_c_calls.specs.Recording.{RecordsRows, RefusesChange}
+use Rattle.s2ix_c_calls.specs.Removing.{RemovesRows}
 use Rattle.s2ix_c_calls.specs.Replaying.{OfLimits}
 use Rattle.s2ix_c_calls.specs.Status.{done, closed, out_of_memory}
 use Rattle.s2ix_c_calls.specs.Stores.{AddsRows, AddsUnion, IsEdited, RefusesRows, RefusesUnion}
@@ -66,3 +69,11 @@ pub record IsCopied (s : State) (status : ℕ) (old new : Option State) : Type 0
 -- rows, added to the counts of the store of a handle
 abbrev pub DoesRows : List Row → ℕ → ℕ → Option State → Option State → Type 0
 DoesRows rows status number old new = Through (AddsRows rows status number) (RefusesRows rows status number) old new
+
+-- rows, removed from the counts of the store of a handle
+abbrev pub DoesRemoval : List Row → ℕ → ℕ → Option State → Option State → Type 0
+DoesRemoval rows status number old new = Through (RemovesRows rows status number) (RefusesRows rows status number) old new
+
+-- the change that rows give, done by the store of a handle
+abbrev pub DoesChange : List EntryRow → ℕ → ℕ → Option State → Option State → Type 0
+DoesChange rows status number old new = Through (RecordsRows rows status number) (RefusesChange rows status number) old new

@@ -6,11 +6,12 @@ ghost use Rattle.s2ix_text_write.specs.Export.{export_text};
 ghost use Rattle.s2ix_text_write.specs.Dump.{dump_text};
 ghost use Rattle.s2ix_text_write.specs.Journal.{journal_text};
 ghost use Rattle.s2ix_c.specs.Calls.{Through};
+ghost use Rattle.s2ix_c_calls.specs.Journals.{journal_from};
 ghost use Rattle.s2ix_c_calls.specs.Lists.{Lists};
 ghost use Rattle.s2ix_c_calls.specs.Status.{closed};
 
 use s2ix_c_calls::status::CLOSED;
-use s2ix_c_calls::{Handle, dump_store, export_store, journal_store};
+use s2ix_c_calls::{Handle, dump_store, export_store, journal_store, journal_store_from};
 use std::alloc::Global;
 
 /// The dump of what is held, of the second version.
@@ -51,6 +52,29 @@ pub extern "C" fn s2ix_journal(
         return CLOSED;
     };
     let status = journal_store(alloc, &store, out, number);
+    *handle = Handle::of(alloc, store);
+    status
+}
+
+/// The journal of the changes that can be undone, from the one with a number on, counted from 1, of the second version. The number after the
+/// last is that of the journal of no changes.
+#[tactic(auto, using(crate::proofs::Through::through_open, crate::proofs::Through::through_closed))]
+#[unsafe(no_mangle)]
+pub extern "C" fn s2ix_journal_from(
+    alloc: Global,
+    handle: &mut Handle,
+    change: u32,
+    out: &mut [u8],
+    number: &mut usize,
+) -> u32
+    ensures { Through (λ s t. (t ≡ s) × Lists (journal_from change s) result number.new out.old out.new)
+        ((result ≡ closed) × (number.new ≡ 0) × (out.new ≡ out.old)) (held_of handle.old) (held_of handle.new) }
+{
+    let Some(store) = handle.take(alloc) else {
+        *number = 0;
+        return CLOSED;
+    };
+    let status = journal_store_from(alloc, &store, change, out, number);
     *handle = Handle::of(alloc, store);
     status
 }

@@ -8,4 +8,6 @@ mod Fresh
 mod StatusTexts
 pub mod OfRows
 pub mod OfNumbers
+pub mod OfEntries
 pub mod NoCells
+mod HeldLabels

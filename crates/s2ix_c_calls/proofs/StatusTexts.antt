@@ -35,4 +35,6 @@ short_text status =
     either (status == 28) _ _ (omega arith) (
     either (status == 29) _ _ (omega arith) (
     either (status == 30) _ _ (omega arith) (
-    omega arith)))))))))))))))))))))))))
+    either (status == 31) _ _ (omega arith) (
+    either (status == 32) _ _ (omega arith) (
+    omega arith)))))))))))))))))))))))))))

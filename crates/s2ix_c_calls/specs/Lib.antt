@@ -8,7 +8,12 @@ pub mod Lists
 pub mod Texts
 pub mod Ranges
 pub mod Changes
+pub mod Difference
+pub mod HeldLabels
+pub mod Journals
 pub mod Replaying
 pub mod Resuming
+pub mod Removing
+pub mod Recording
 pub mod Line
 pub mod Laws

@@ -1,5 +1,5 @@
 -- Stores that go on from texts, and why they don't.
-use Rattle.std.specs.Prelude.{◌≡◌, ◌≢◌, ◌↔◌, ◌⊎◌, ℕ, ◌<◌, ◌-◌, Option, Some, None, List, length, take}
+use Rattle.std.specs.Prelude.{◌≡◌, ◌≢◌, ◌↔◌, ◌⊎◌, ℕ, ◌<◌, ◌≤◌, ◌-◌, Option, Some, None, List, length, take}
 use Rattle.s2ix_bag.specs.Replay.{first_refusal, way_back, with_numbers}
 use Rattle.s2ix_bag_pairs.specs.Collection.{LimitedCollection}
 use Rattle.s2ix_bag_pairs.specs.declared.limits.Limits.{Limits}
@@ -84,3 +84,4 @@ pub record IsJoined (last status number : ℕ) (s t : State) : Type 0 where
   pub accepted : status ≡ done → (t ≡ after_join s last) × (number ≡ length (joined_last s last))
   pub refused : status ≢ done → (t ≡ s) × (number ≡ 0) × ((status ≡ too_few_changes) ⊎ (status ≡ out_of_memory))
   pub too_few : (status ≡ too_few_changes) ↔ (length s.done < last)
+  pub nothing : last ≤ 1 → (t ≡ s) × (status ≢ out_of_memory)

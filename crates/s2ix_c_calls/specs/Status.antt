@@ -37,6 +37,9 @@ no_dump = 9
 abbrev pub journal_full : ℕ
 journal_full = 16
 
+abbrev pub not_held : ℕ
+not_held = 18
+
 abbrev pub no_such_change : ℕ
 no_such_change = 20
 
@@ -67,11 +70,17 @@ mismatch = 29
 abbrev pub too_few_changes : ℕ
 too_few_changes = 30
 
+abbrev pub unsorted : ℕ
+unsorted = 31
+
+abbrev pub no_difference : ℕ
+no_difference = 32
+
 -- the status of a refused edit
 abbrev pub edit_status : EditError → ℕ
 edit_status JournalFull = journal_full
 edit_status NoSuchLabel = 17
-edit_status NotHeld = 18
+edit_status NotHeld = not_held
 edit_status TooFine = 19
 edit_status NoSuchChange = 20
 edit_status BelowZero = 21

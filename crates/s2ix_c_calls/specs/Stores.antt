@@ -45,13 +45,17 @@ pub record IsAdded (rows : List Held) (status number : ℕ) (s t : State) : Type
   pub refused : status ≢ done → (t ≡ s) × (number ≡ 0) × IsRefusal status (rows_refusal s rows)
   pub no_change : (status ≡ edit_status NoChange) ↔ (HasRoom s × (copies_in rows ≡ 0))
 
--- rows by their numbers, added to the counts of a store: the first wrong one comes first, then want of memory for the list of their pairs,
+-- what P says of the pairs that rows name by their numbers: the first wrong row comes first, then want of memory for the list of their pairs,
 -- if there are rows
-abbrev pub AddsRows : List Row → ℕ → ℕ → State → State → Type 0
-AddsRows rows status number s t =
+abbrev pub OfRows : (List Held → ℕ → ℕ → State → State → Type 0) → List Row → ℕ → ℕ → State → State → Type 0
+OfRows P rows status number s t =
     (IsFirstWrong rows number status × (t ≡ s))
     ⊎ (AreRight rows × (rows ≢ []) × (status ≡ out_of_memory) × (number ≡ 0) × (t ≡ s))
-    ⊎ ((held : List Held) × NameHeld rows held × IsAdded held status number s t)
+    ⊎ ((held : List Held) × NameHeld rows held × P held status number s t)
+
+-- rows added to the counts of a store
+abbrev pub AddsRows : List Row → ℕ → ℕ → State → State → Type 0
+AddsRows rows status number s t = OfRows IsAdded rows status number s t
 
 -- what a closed handle answers to rows: also there the first wrong one comes first
 abbrev pub RefusesRows : List Row → ℕ → ℕ → Type 0

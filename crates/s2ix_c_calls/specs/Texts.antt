@@ -28,4 +28,6 @@ status_text status =
     if status == 28 then codes "the text is no journal" else
     if status == 29 then codes "a change has another count than is held" else
     if status == 30 then codes "fewer changes can be undone" else
+    if status == 31 then codes "an entry is not above the one before it" else
+    if status == 32 then codes "an entry has two equal counts" else
     codes "no status"

@@ -38,7 +38,7 @@ fn entry_row_for(entry: Entry) -> EntryRow
 }
 
 // Puts entries to the front of `out`, if it has room for them; `number` is how many there are.
-fn put_entries(list: &[Entry], out: &mut [EntryRow], number: &mut usize) -> u32
+pub(crate) fn put_entries(list: &[Entry], out: &mut [EntryRow], number: &mut usize) -> u32
     ensures { IsPut (map entry_row_of list.now) result number.new out.old out.new }
 {
     *number = list.len();

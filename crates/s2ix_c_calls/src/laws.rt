@@ -4,11 +4,13 @@ ghost use Rattle.s2ix_c_calls.specs.declared.no_answer.NoAnswer.{NoAnswer};
 ghost use Rattle.s2ix_c_calls.specs.Laws.{EachPairBeginsOnce, NewFromALimit};
 ghost use Rattle.s2ix_c_calls.specs.Texts.{status_text};
 ghost use Rattle.s2ix_c_calls.specs.declared.changes.EntryRow.{EntryRow};
+ghost use Rattle.s2ix_c_calls.specs.declared.held_labels.LabelRow.{LabelRow};
 ghost use Rattle.s2ix_c_calls.specs.declared.replaying.Direction.{Direction};
 ghost use Rattle.s2ix_c_calls.specs.declared.replaying.Refused.{Refused};
 ghost use Rattle.s2ix_c_calls.specs.declared.rows.Row.{Row};
 
 use crate::changes::EntryRow;
+use crate::held_labels::LabelRow;
 use crate::no_answer::NoAnswer;
 use crate::replaying::{Direction, Refused};
 use crate::rows::Row;
@@ -31,6 +33,11 @@ pub fn cloned_rows_are_the_same()
 /// A clone of an entry's row is the same.
 pub fn cloned_entry_rows_are_the_same()
     ensures { (a copy : EntryRow) → ⟦<EntryRow as Clone>⟧.is_clone a copy ↔ (copy ≡ a) }
+{}
+
+/// A clone of a held label's row is the same.
+pub fn cloned_label_rows_are_the_same()
+    ensures { (a copy : LabelRow) → ⟦<LabelRow as Clone>⟧.is_clone a copy ↔ (copy ≡ a) }
 {}
 
 /// A clone of a direction is the same.

@@ -31,6 +31,8 @@ pub const NO_DUMP: u32 = 9;
 
 /// The changes to undo are as many as the limit allows.
 pub const JOURNAL_FULL: u32 = 16;
+/// Fewer copies are held than are to be removed.
+pub const NOT_HELD: u32 = 18;
 /// A level is too fine.
 pub const TOO_FINE: u32 = 19;
 /// No change has the number.
@@ -53,6 +55,10 @@ pub const NO_JOURNAL: u32 = 28;
 pub const MISMATCH: u32 = 29;
 /// Fewer changes can be undone than are to be joined.
 pub const TOO_FEW_CHANGES: u32 = 30;
+/// An entry of a list is not above the one before it.
+pub const UNSORTED: u32 = 31;
+/// The two counts of an entry of a list are equal.
+pub const NO_DIFFERENCE: u32 = 32;
 
 /// The status of a refused edit.
 pub fn status_of(error: EditError) -> u32
@@ -61,7 +67,7 @@ pub fn status_of(error: EditError) -> u32
     match error {
         EditError::JournalFull => JOURNAL_FULL,
         EditError::NoSuchLabel => 17,
-        EditError::NotHeld => 18,
+        EditError::NotHeld => NOT_HELD,
         EditError::TooFine => TOO_FINE,
         EditError::NoSuchChange => NO_SUCH_CHANGE,
         EditError::BelowZero => 21,
@@ -102,6 +108,8 @@ pub fn text_of(status: u32) -> &'static str
         28 => "the text is no journal",
         29 => "a change has another count than is held",
         30 => "fewer changes can be undone",
+        31 => "an entry is not above the one before it",
+        32 => "an entry has two equal counts",
         _ => "no status",
     }
 }

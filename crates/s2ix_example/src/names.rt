@@ -13,8 +13,8 @@ use s2ix_cli::{
     read_whole, replay_texts, rewind_texts, run,
 };
 use s2ix_edit::{
-    Edit, EditError, HistoryError, JoinError, RecordError, RedoError, RemoveError, Store,
-    StoreTable, UndoError,
+    Edit, EditError, HeldLabel, HistoryError, JoinError, RecordError, RedoError, RemoveError,
+    Store, StoreTable, UndoError,
 };
 use s2ix_table::{
     BagReader, ChainIter, ChainTable, CopiedTable, Cost, FacedTable, Meter, PairReader, RangeIter,

@@ -1,0 +1,8 @@
+-- The store is put back as the rows left it.
+use Rattle.std.proofs.Common.{rules}
+use Rattle.s2ix_c.proofs.Through.{through_open}
+use Rattle.s2ix_c.proofs.recording.s2ix_record.Goals as goal
+
+pub returns : goal.returns
+returns c =
+    through_open _ _ _ _ c.deref_mut.result.now c.record_rows-status.new.store (search rules) (search rules) c.record_rows-status.ensures
