@@ -29,6 +29,9 @@ using Row = ::s2ix_row;
 // A pair in a change: entry.cell, entry.label, and its counts entry.before and entry.after. 0 is the count of a pair that is not held.
 using Entry = ::s2ix_entry;
 
+// A label that a store holds: held.label, how many pairs have it, held.pairs, and the sum of their counts, held.copies.
+using HeldLabel = ::s2ix_held_label;
+
 // What a status says, in words.
 [[nodiscard]] inline std::string status_text(std::uint32_t status) {
   std::uint8_t bytes[128] = {};
@@ -75,8 +78,9 @@ class Error : public std::runtime_error {
   // when a cell has no parent of a level.
   [[nodiscard]] std::optional<std::uint64_t> value() const noexcept { return where_.value; }
 
-  // The place of that number among the cells or rows of the call, counted from 0; if several are wrong, the place of the first. If a call
-  // takes two lists, the places count on through the second. None if the number was not in a list.
+  // The place of that number among the cells, rows or entries of the call, counted from 0; if several are wrong, the place of the first. If a
+  // call takes two lists, the places count on through the second. remove_all and record tell it for other statuses too. None if no item of a
+  // list is refused.
   [[nodiscard]] std::optional<std::size_t> place() const noexcept { return where_.place; }
 
  private:
@@ -214,11 +218,25 @@ inline constexpr std::uint32_t highest_label = 2147483647;
   return where;
 }
 
-// The cell or label of a row, whichever the status speaks of, and the row's place.
-[[nodiscard]] inline Where wrong_row(std::uint32_t status, const Row* rows, std::size_t place) {
+// The place of the row or entry that the status speaks of, if it speaks of one, with the cell or label that is wrong.
+template <class Item>
+[[nodiscard]] Where wrong_item(std::uint32_t status, const Item* items, std::size_t place) {
   Where where;
-  if (status != S2IX_NO_CELL && status != S2IX_NO_LABEL) return where;
-  where.value = status == S2IX_NO_CELL ? rows[place].cell : rows[place].label;
+  switch (status) {
+    case S2IX_NO_CELL:
+      where.value = items[place].cell;
+      break;
+    case S2IX_NO_LABEL:
+      where.value = items[place].label;
+      break;
+    case S2IX_NOT_HELD:
+    case S2IX_UNSORTED:
+    case S2IX_NO_DIFFERENCE:
+    case S2IX_MISMATCH:
+      break;
+    default:
+      return where;
+  }
   where.place = place;
   return where;
 }

@@ -91,6 +91,19 @@ class Handle {
   mutable ::s2ix_handle handle_{};
 };
 
+// The entries that lead from the pairs of a label to one copy of each of some cells, both by rising cell.
+inline std::vector<Entry> led_to(const std::vector<Row>& held, std::uint32_t label, const std::vector<std::uint64_t>& cells) {
+  std::vector<Entry> entries;
+  auto row = held.begin();
+  for (const std::uint64_t cell : cells) {
+    for (; row != held.end() && row->cell < cell; ++row) entries.push_back({row->cell, label, row->count, 0});
+    const std::uint32_t before = row != held.end() && row->cell == cell ? (row++)->count : 0;
+    if (before != 1) entries.push_back({cell, label, before, 1});
+  }
+  for (; row != held.end(); ++row) entries.push_back({row->cell, label, row->count, 0});
+  return entries;
+}
+
 }  // namespace detail
 
 template <class Id>
@@ -180,14 +193,7 @@ class Index {
   // Adds the count of each row to that of its cell under its label, as one change: rows in any order, repeated or not. Each row keeps its
   // cell: unlike add_union, the call normalises nothing. All are added, or none. O(m log m) for m rows, besides the time of an
   // edit. S2IX_NO_CELL, S2IX_NO_LABEL, with the first row that is wrong.
-  std::size_t add_all(const Row* rows, std::size_t size) {
-    static constexpr Row none{};
-    std::size_t place = 0;
-    const std::uint32_t status =
-        handle_.edit([&](::s2ix_handle* handle) { return s2ix_add_all(handle, size == 0 ? &none : rows, size, &place); });
-    detail::check(status, [&](std::uint32_t why) { return detail::wrong_row(why, rows, place); });
-    return place;
-  }
+  std::size_t add_all(const Row* rows, std::size_t size) { return edit_by(s2ix_add_all, rows, size); }
   std::size_t add_all(const std::vector<Row>& rows) { return add_all(rows.data(), rows.size()); }
 
   // Takes copies from the count of a cell under a label. S2IX_NO_CELL, S2IX_NO_LABEL, S2IX_NOT_HELD.
@@ -195,6 +201,13 @@ class Index {
     return edit([&](::s2ix_handle* handle, std::size_t* to) { return s2ix_remove(handle, cell.number(), label, copies, to); },
                 [&](std::uint32_t status) { return detail::wrong_pair(status, cell.number(), label); });
   }
+
+  // Takes the count of each row from that of its cell under its label, as one change: rows in any order, and repeated ones add up. All are
+  // taken, or none. O(m log m) for m rows, besides the time of an edit, and O(log m) times that for S2IX_NOT_HELD. S2IX_NO_CELL,
+  // S2IX_NO_LABEL, with the first row that is wrong; S2IX_NOT_HELD, with the place of the first row that takes more copies than the rows
+  // before it leave.
+  std::size_t remove_all(const Row* rows, std::size_t size) { return edit_by(s2ix_remove_all, rows, size); }
+  std::size_t remove_all(const std::vector<Row>& rows) { return remove_all(rows.data(), rows.size()); }
 
   // Adds one copy under a label for each cell of the normal form of a union: four siblings become their parent, and a cell within another is
   // left out; add_all adds cells as they are. S2IX_NO_CELL, S2IX_NO_LABEL.
@@ -209,6 +222,24 @@ class Index {
   std::size_t drop_label(std::uint32_t label) {
     return edit([&](::s2ix_handle* handle, std::size_t* to) { return s2ix_drop_label(handle, label, to); },
                 [&](std::uint32_t status) { return detail::wrong_label(status, {label}); });
+  }
+
+  // Makes one copy of each cell of the normal form of a union all that a label has. So it drops what the label has elsewhere, and a pair of
+  // several copies keeps one. Without cells it is drop_label. It costs what drop_label and add_union do. S2IX_NO_LABEL, S2IX_NO_CELL;
+  // S2IX_NO_SUCH_LABEL without cells.
+  std::size_t set_label(std::uint32_t label, const detail::Given& cells) {
+    if (label > detail::highest_label) detail::refuse(S2IX_NO_LABEL, detail::wrong_label(S2IX_NO_LABEL, {label}));
+    const std::vector<std::uint64_t> wanted = cell_union::normalise(cells);
+    if (wanted.empty()) return drop_label(label);
+    return edit([&](::s2ix_handle* handle, std::size_t* to) {
+      std::vector<Row> held;
+      const std::uint32_t status = detail::fill(
+          held, [&](Row* rows, std::size_t room, std::size_t* number) { return s2ix_of_label(handle, label, rows, room, number); });
+      if (status != S2IX_DONE) return status;
+      const std::vector<Entry> entries = detail::led_to(held, label, wanted);
+      static constexpr Entry none{};
+      return s2ix_record(handle, entries.empty() ? &none : entries.data(), entries.size(), to);
+    });
   }
 
   // Moves all copies of one label to another, cell by cell. S2IX_NO_LABEL, S2IX_NO_SUCH_LABEL.
@@ -236,9 +267,17 @@ class Index {
     return edit([&](::s2ix_handle* handle, std::size_t* to) { return s2ix_revert(handle, change, to); });
   }
 
+  // Does a change that is given by its entries, as change() and difference() list them: by rising cell, then label. All are done, or none.
+  // O(m) for m entries, besides the time of an edit. With the place of the first entry that is wrong: S2IX_NO_CELL, S2IX_NO_LABEL;
+  // S2IX_UNSORTED, it is not above the one before it; S2IX_NO_DIFFERENCE, its two counts are equal; S2IX_MISMATCH, its count before is not
+  // the one that is held.
+  std::size_t record(const Entry* entries, std::size_t size) { return edit_by(s2ix_record, entries, size); }
+  std::size_t record(const std::vector<Entry>& entries) { return record(entries.data(), entries.size()); }
+
   // Does the changes of a journal, which another index did from the same pairs on: all, or none. Each can be undone by itself. Returns
   // how many pairs have another count than before. S2IX_CLOSED; S2IX_NO_JOURNAL, with the first line that has a fault; S2IX_JOURNAL_FULL; and
-  // with the change S2IX_MISMATCH, S2IX_TOO_MANY_COPIES, S2IX_TOO_MANY_PAIRS. O(n + m log n) for n bytes and pairs and m entries.
+  // with the change S2IX_MISMATCH, S2IX_TOO_MANY_COPIES, S2IX_TOO_MANY_PAIRS. O(b + m log n) for b bytes and m entries, besides the time of
+  // an edit.
   std::size_t apply(std::string_view journal) {
     std::size_t given = 0, place = 0, entry = 0;
     const std::uint32_t status = handle_.edit([&](::s2ix_handle* handle) {
@@ -267,8 +306,8 @@ class Index {
   }
 
   // Makes one change of the last ones that can be undone, so many of them, and returns how many pairs it has; if their counts are what they
-  // were before, the changes are gone. What is held stays, and so does what can be redone. O(n + m log n) for m entries. S2IX_CLOSED,
-  // S2IX_TOO_FEW_CHANGES.
+  // were before, the changes are gone. What is held stays, and so does what can be redone. O(m log k) for m entries in k changes.
+  // S2IX_CLOSED, S2IX_TOO_FEW_CHANGES.
   std::size_t join(std::size_t last) {
     return edit([&](::s2ix_handle* handle, std::size_t* to) {
       return is_in_group(handle, last) ? s2ix_join(handle, last, to) : std::uint32_t{S2IX_TOO_FEW_CHANGES};
@@ -379,6 +418,14 @@ class Index {
     return rows;
   }
 
+  // The labels that are held, rising, each with how many pairs have it and the sum of their counts. O(n log n). S2IX_CLOSED.
+  void held_labels(std::vector<HeldLabel>& labels) const { list(labels, s2ix_held_labels); }
+  [[nodiscard]] std::vector<HeldLabel> held_labels() const {
+    std::vector<HeldLabel> labels;
+    held_labels(labels);
+    return labels;
+  }
+
   // At most `most` pairs from a place on, counted from 0, in rising order of cell, then label. O(k log n) for k pairs. S2IX_CLOSED.
   [[nodiscard]] std::vector<Row> pairs(std::size_t from, std::size_t most) const {
     return page(from, most, [&](::s2ix_handle* handle, Row* to, std::size_t room, std::size_t* number) {
@@ -408,6 +455,18 @@ class Index {
     std::vector<Entry> entries;
     list(entries,
          [&](::s2ix_handle* handle, Entry* to, std::size_t room, std::size_t* many) { return s2ix_change(handle, number, to, room, many); });
+    return entries;
+  }
+
+  // The entries that lead from what this index holds to what another does: the pairs whose counts differ, by rising cell, then label. record()
+  // of them gives this one the other's pairs, by one change. O(n + m) for the pairs of both. S2IX_CLOSED.
+  [[nodiscard]] std::vector<Entry> difference(const Index& other) const {
+    // (a copy, so that no call takes two locks)
+    Index after = other.copy();
+    std::vector<Entry> entries;
+    list(entries, [&](::s2ix_handle* handle, Entry* to, std::size_t room, std::size_t* number) {
+      return s2ix_difference(handle, after.handle(), to, room, number);
+    });
     return entries;
   }
 
@@ -469,6 +528,22 @@ class Index {
 
   // The journal of the changes that can be undone, the oldest first (FORMATS.md). O(n) for n entries. S2IX_CLOSED.
   [[nodiscard]] std::string journal() const { return text(s2ix_journal, s2ix_done_count, 64); }
+
+  // The journal of the changes that can be undone from the one with a number on, as in revert: what an index needs for apply that has done
+  // those before it. If the number is one more than that of the last, it is the journal of no changes. O(n) for n entries. S2IX_CLOSED,
+  // S2IX_NO_SUCH_CHANGE.
+  [[nodiscard]] std::string journal_from(std::uint32_t change) const {
+    return text(
+        [&](::s2ix_handle* handle, std::uint8_t* bytes, std::size_t room, std::size_t* number) {
+          return s2ix_journal_from(handle, change, bytes, room, number);
+        },
+        [&](::s2ix_handle* handle, std::size_t* many) {
+          const std::uint32_t status = s2ix_done_count(handle, many);
+          *many -= std::min<std::size_t>(*many, change == 0 ? 0 : change - 1);
+          return status;
+        },
+        64);
+  }
 
   // The export of what is held: one line of compact JSON, without a line feed (FORMATS.md). O(n). S2IX_CLOSED.
   [[nodiscard]] std::string export_json() const { return text(s2ix_export, s2ix_len, 32); }
@@ -580,6 +655,17 @@ class Index {
     return given;
   }
 
+  // The number that an edit by a list writes.
+  template <class Item>
+  std::size_t edit_by(std::uint32_t (*call)(::s2ix_handle*, const Item*, std::size_t, std::size_t*), const Item* items, std::size_t size) {
+    static constexpr Item none{};
+    std::size_t place = 0;
+    const std::uint32_t status =
+        handle_.edit([&](::s2ix_handle* handle) { return call(handle, size == 0 ? &none : items, size, &place); });
+    detail::check(status, [&](std::uint32_t why) { return detail::wrong_item(why, items, place); });
+    return place;
+  }
+
   // Puts the list of a call in place of what `items` held. The first call has at least that much room.
   template <class Items, class Call, class Wrong = detail::NoneWrong>
   void list(Items& items, Call call, Wrong wrong = Wrong(), std::size_t least_room = 0) const {
@@ -620,7 +706,8 @@ class Index {
   }
 
   // The text of a call. The first call has room for `bytes_each` bytes for each item that `counter` counts.
-  std::string text(decltype(s2ix_dump)* call, decltype(s2ix_len)* counter, std::size_t bytes_each) const {
+  template <class Call, class Counter>
+  std::string text(Call call, Counter counter, std::size_t bytes_each) const {
     std::string text;
     const std::uint32_t status = handle_.with([&](::s2ix_handle* handle) {
       std::size_t many = 0;

@@ -393,6 +393,8 @@ void NamesWhatIsWrong() {
   EXPECT(Names(S2IX_NO_CELL, kNoCell, 2, [&] { index.add_union(wrong, 1); }));
   EXPECT(Names(S2IX_NO_LABEL, kNoLabel, {}, [&] { index.add_union({kFirst}, kNoLabel); }));
   EXPECT(Names(S2IX_NO_LABEL, kNoLabel, {}, [&] { index.drop_label(kNoLabel); }));
+  EXPECT(Names(S2IX_NO_LABEL, kNoLabel, {}, [&] { index.set_label(kNoLabel, wrong); }));
+  EXPECT(Names(S2IX_NO_CELL, kNoCell, 2, [&] { index.set_label(1, wrong); }));
   EXPECT(Names(S2IX_NO_LABEL, kNoLabel, {}, [&] { index.relabel(1, kNoLabel); }));
   EXPECT(Names(S2IX_NO_LABEL, kNoLabel, {}, [&] { index.grow(kNoLabel, 1); }));
   EXPECT(Names(S2IX_NO_LABEL, kNoLabel, {}, [&] { index.normalise_label(kNoLabel); }));
@@ -655,10 +657,11 @@ void NamedAsInS2() {
 bool RefusesEdits(s2ix::Index& index) {
   return IsMistake([&] { index.add(kSecond, 1); }) && IsMistake([&] { index.add_all({{kSecond, 1, 1}}); }) &&
          IsMistake([&] { index.remove(kFirst, 1); }) && IsMistake([&] { index.add_union({kSecond}, 1); }) &&
-         IsMistake([&] { index.drop_label(1); }) && IsMistake([&] { index.relabel(1, 2); }) && IsMistake([&] { index.grow(1, 1); }) &&
+         IsMistake([&] { index.drop_label(1); }) && IsMistake([&] { index.set_label(1, {kSecond}); }) && IsMistake([&] { index.relabel(1, 2); }) && IsMistake([&] { index.grow(1, 1); }) &&
          IsMistake([&] { index.normalise_label(1); }) && IsMistake([&] { index.revert(1); }) && IsMistake([&] { index.undo(); }) &&
          IsMistake([&] { index.redo(); }) && IsMistake([&] { index.forget(); }) && IsMistake([&] { index.clear(); }) &&
          IsMistake([&] { index.line("undo"); }) && IsMistake([&] { index.apply("s2ix-journal 2\nend 0\n"); }) &&
+         IsMistake([&] { index.remove_all({{kFirst, 1, 1}}); }) && IsMistake([&] { index.record({{kSecond, 1, 0, 1}}); }) &&
          IsMistake([&] { index.join(1); }) && IsMistake([&] { index.group([] {}); }) && IsMistake([&] { index.forget_older(1); });
 }
 

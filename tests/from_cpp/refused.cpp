@@ -43,6 +43,7 @@ std::string TextOf(std::uint64_t number) { return std::to_string(number); }
 std::string TextOf(const std::string& text) { return text; }
 std::string TextOf(const s2ix::Row& row) { return TextOf(row.cell) + ":" + TextOf(row.label) + ":" + TextOf(row.count); }
 std::string TextOf(const s2ix::Entry& entry) { return TextOf(entry.cell) + ":" + TextOf(entry.before) + ":" + TextOf(entry.after); }
+std::string TextOf(const s2ix::HeldLabel& held) { return TextOf(held.label) + ":" + TextOf(held.pairs) + ":" + TextOf(held.copies); }
 std::string TextOf(const s2ix::Index& index) { return index.dump(); }
 template <class Item>
 std::string TextOf(const std::vector<Item>& items) {
@@ -78,12 +79,17 @@ const Call kCalls[] = {
     {"add", [](s2ix::Index& index) { return index.add(kFace, 1); }},
     {"add_all", [](s2ix::Index& index) { return index.add_all({{kSecond, 9, 1}, {kFirst, 7, 2}, {kSecond, 9, 1}}); }},
     {"remove", [](s2ix::Index& index) { return index.remove(kFirst, 7); }},
+    {"remove_all", [](s2ix::Index& index) { return index.remove_all({{kLeaf, 8, 1}, {kFirst, 7, 1}, {kLeaf, 8, 1}}); }},
     {"add_union", [](s2ix::Index& index) { return index.add_union({kFace, kSecond}, 7); }},
     {"drop_label", [](s2ix::Index& index) { return index.drop_label(7); }},
+    {"set_label", [](s2ix::Index& index) { return index.set_label(7, {kFace, kLeaf}); }},
+    {"set_label of no cells", [](s2ix::Index& index) { return index.set_label(7, {}); }},
     {"relabel", [](s2ix::Index& index) { return index.relabel(7, 9); }},
     {"grow", [](s2ix::Index& index) { return index.grow(7, 1); }},
     {"normalise_label", [](s2ix::Index& index) { return index.normalise_label(8); }},
     {"revert", [](s2ix::Index& index) { return index.revert(1); }},
+    {"record", [](s2ix::Index& index) { return index.record({{kFirst, 7, 1, 2}, {kFace, 7, 0, 1}}); }},
+    {"difference", [](s2ix::Index& index) { return index.difference(s2ix::Index::load(kDump)); }},
     {"apply", [](s2ix::Index& index) { return index.apply("s2ix-journal 2\nchange 2\n04 7 1 3\n1c 7 0 1\nchange 1\n3 9 0 1\nend 2\n"); }},
     {"join", [](s2ix::Index& index) { return index.join(2); }},
     {"undo", [](s2ix::Index& index) { return index.undo(); }},
@@ -98,6 +104,8 @@ const Call kCalls[] = {
     {"change", [](s2ix::Index& index) { return index.change(1); }},
     {"dump", [](s2ix::Index& index) { return index.dump(); }},
     {"journal", [](s2ix::Index& index) { return index.journal(); }},
+    {"journal_from", [](s2ix::Index& index) { return index.journal_from(2); }},
+    {"held_labels", [](s2ix::Index& index) { return index.held_labels(); }},
     {"export_json", [](s2ix::Index& index) { return index.export_json(); }},
     {"line of an edit", [](s2ix::Index& index) { return index.line("add 1 1"); }},
     {"line of a query", [](s2ix::Index& index) { return index.line("export"); }},
