@@ -1,9 +1,13 @@
 """Histories by the Python package: changes that texts lead on, back and again, groups of them, and walks that go on after a dump and a journal.
 tests/python_client runs this."""
+import os
+import pickle
 import random
+import re
+import tempfile
 
 import s2ix
-from plain_model import Model
+from plain_model import Model, differences
 from random_lines import Writer, start_of
 from s2ix import Index
 
@@ -67,6 +71,7 @@ def check_histories(count):
     ]:
         count.expect(name, told(call), wanted)
     check_groups(count)
+    check_given(count)
 
 
 def check_groups(count):
@@ -109,6 +114,166 @@ def check_groups(count):
         with index.group():
             index.add(SECOND, 4)
         count.expect("a group after a forget", (index.done_count(), index.undo()), (1, 1))
+
+
+def at_place(call, *given):
+    """What a call answers, or the name of what it raises, with the value and the place of what is wrong."""
+    try:
+        return call(*given)
+    except s2ix.S2ixError as refusal:
+        return type(refusal).__name__, refusal.value, refusal.place
+    except Exception as raised:  # noqa: BLE001
+        return type(raised).__name__
+
+
+def shown(index):
+    return index.dump(), index.journal(), index.undone_count()
+
+
+def check_given(count):
+    """Changes that are given by their entries, and what is refused; then all is as it was."""
+    entries = [("04", 9, 0, 2), (SECOND, 9, 0, 1), s2ix.Entry(FACE, 3, 0, 1)]
+    with Index(pairs=3, copies=9, changes=2) as index:
+        count.expect("record", (index.record(iter(entries)), index.change(1), index.done_count()), (3, [(FIRST, 9, 0, 2), *entries[1:]], 1))
+        index.undo()
+        kept = shown(index)
+        first = (FIRST, 9, 0, 1)
+        for given, wanted in [
+            ([], ("NoChange", None, None)),
+            ([first, (2, 9, 0, 1), (2, 9, 0, 1)], ("NoCell", 2, 1)),
+            ([first, ("x", 9, 0, 1)], ("NoCell", "x", 1)),
+            ([(FIRST, 2**31, 0, 1)], ("NoLabel", 2**31, 0)),
+            ([(FIRST, -1, 0, 1)], ("NoLabel", -1, 0)),
+            ([(SECOND, 9, 0, 1), first], ("Unsorted", None, 1)),
+            ([first, first], ("Unsorted", None, 1)),
+            ([first, (FIRST, 8, 0, 1), (2, 9, 0, 1)], ("NoCell", 2, 2)),
+            ([first, (SECOND, 9, 1, 1), (FIRST, 9, 0, 1)], ("Unsorted", None, 2)),
+            ([first, (SECOND, 9, 1, 1)], ("NoDifference", None, 1)),
+            ([first, (SECOND, 9, 1, 2)], ("Mismatch", None, 1)),
+            ([(FIRST, 9, 2**32, 1)], ("Mismatch", None, 0)),
+            ([first, (SECOND, 9, 0, 2**32)], ("TooManyCopies", 2**32, 1)),
+            ([(FIRST, 9, 0, 10)], ("TooManyCopies", None, None)),
+            ([(FIRST, label, 0, 1) for label in range(4)], ("TooManyPairs", None, None)),
+            ([(FIRST, 9, 0, -1)], "ValueError"),
+            ([(FIRST, 9, -1, 1)], "ValueError"),
+            *((wrong, "TypeError") for wrong in (None, 7, "abcd", [7], ["abcd"], [(FIRST, 9, 0)], [(FIRST, 9, 0, 1, 1)], [(FIRST, "9", 0, 1)], [(FIRST, 9, 0, 1.5)])),
+        ]:
+            count.expect(f"record of {given!r}", (at_place(index.record, given), shown(index)), (wanted, kept))
+        try:
+            index.record([first, (SECOND, 9, 1, 2)])
+        except s2ix.Mismatch as refusal:
+            count.expect("the entry of a mismatch", (refusal.change, refusal.entry, str(refusal)), (1, 2, "entry 1: another count is held"))
+            count.expect("its pickle", str(pickle.loads(pickle.dumps(refusal))), str(refusal))
+        for call, given, words in [
+            (index.record, [first, (SECOND, 9, 0)], "entry 1 has 3 items, not 4"),
+            (index.record, [(FIRST, 9, 0, 1, 1)], "entry 0 has 5 items, not 4"),
+            (index.add_all, [("04", 9, 1), ()], "row 1 has 0 items, not 3"),
+            (index.remove_all, [(FIRST, 9)], "row 0 has 2 items, not 3"),
+        ]:
+            try:
+                count.expect(words, call(given), "TypeError")
+            except TypeError as refusal:
+                count.expect("an item of another size", str(refusal), words)
+        index.redo()
+        index.remove(FACE, 3)
+        count.expect("record into a full journal", [at_place(index.record, given) for given in ([first], [])], [("JournalFull", None, None)] * 2)
+    check_removed(count)
+    check_journals(count)
+    check_page(count)
+    for seed in range(40):
+        walk_between(count, seed)
+
+
+def check_removed(count):
+    """Rows that are removed at once, and what is refused; then all is as it was."""
+    with Index(changes=2) as index:
+        index.add_all([(FIRST, 9, 3), (SECOND, 9, 1), (FACE, 3, 2**32 - 1)])
+        rows = [(SECOND, 9, 1), ("04", 9, 1), (FACE, 3, 0), (FIRST, 9, 1)]
+        found = index.remove_all(rows), index.count(FIRST, 9), len(index), index.done_count(), index.undo()
+        count.expect("remove_all", found, (2, 1, 2, 2, 2))
+        count.expect("remove_all of packed rows", (index.remove_all(index.meet_view(SECOND)), index.undo()), (2, 2))
+        kept = shown(index)
+        for given, wanted in [
+            ([], ("NoChange", None, None)),
+            ([(FIRST, 9, 0)], ("NoChange", None, None)),
+            ([(FIRST, 9, 1), (2, 9, 1)], ("NoCell", 2, 1)),
+            ([("x", 9, 1)], ("NoCell", "x", 0)),
+            ([(FIRST, 9, 9), (FIRST, 2**31, 1)], ("NoLabel", 2**31, 1)),
+            ([(FIRST, 9, 2), (SECOND, 9, 1), (FIRST, 9, 2), (SECOND, 9, 1)], ("NotHeld", 2, 2)),
+            ([(SECOND, 3, 1)], ("NotHeld", 1, 0)),
+            ([(FACE, 3, 1), (FACE, 3, 2**32)], ("NotHeld", 2**32, 1)),
+            ([(FIRST, 9, -1)], "ValueError"),
+            *((wrong, "TypeError") for wrong in (None, 7, "abc", [7], ["abc"], [(FIRST, 9)], [(FIRST, None, 1)])),
+        ]:
+            count.expect(f"remove_all of {given!r}", (at_place(index.remove_all, given), shown(index)), (wanted, kept))
+        try:
+            index.remove_all([(FIRST, 9, 4)])
+        except s2ix.NotHeld as refusal:
+            count.expect("the words of NotHeld", str(refusal), "row 0: too few copies are held")
+        index.add(FIRST, 1)
+        count.expect("remove_all with a full journal", at_place(index.remove_all, [(FIRST, 1, 2)]), ("JournalFull", None, None))
+
+
+def check_journals(count):
+    """Journals from a change on, for who has done those before it; and what leads from one index to another."""
+    with Index() as index, Index() as follower, Index() as closed:
+        closed.close()
+        for label in range(4):
+            index.add_all([(FIRST, label, 1), (SECOND, label, 2)])
+            wanted = f"s2ix-journal 2\nchange 2\n04 {label} 0 1\n0c {label} 0 2\nend 1\n"
+            count.expect("the last change", (index.journal(label + 1), index.journal(first=label + 2)), (wanted, NONE))
+            if label % 2:
+                follower.apply(index.journal(follower.done_count() + 1))
+                count.expect("who follows", shown(follower), shown(index))
+        count.expect("all changes", index.journal(1), index.journal())
+        count.expect("no such change", [told(index.journal, first) for first in (0, 6, -1, 2**32 + 1)], [("NoSuchChange", 0, None)] * 4)
+        count.expect("no number", [told(index.journal, first) for first in ("1", None, 1.5)], ["TypeError"] * 3)
+        follower.undo()
+        index.add(FACE, 9)
+        found = index.difference(follower), index.difference(index), follower.record(follower.difference(index)), follower.dump() == index.dump()
+        count.expect("difference", found, ([(FIRST, 3, 1, 0), (SECOND, 3, 2, 0), (FACE, 9, 1, 0)], [], 3, True))
+        refused = [told(index.difference, closed), told(closed.difference, index), told(index.difference, None), told(index.difference, index.dump())]
+        count.expect("no difference", refused, [("Closed", 0, None)] * 2 + ["TypeError"] * 2)
+
+
+def check_page(count):
+    """The functions of docs/FROM_PYTHON.md that keep an index and open it again: each time the file has the last index alone."""
+    with open(f"{os.path.dirname(os.path.realpath(__file__))}/../docs/FROM_PYTHON.md", encoding="utf-8") as file:
+        lines = re.search(r"## How to keep an index\n\n```python\n(.*?)```", file.read(), re.S)[1]
+    words = {"Index": Index}
+    exec(lines, words)
+    with tempfile.TemporaryDirectory() as folder, Index() as index:
+        for label in range(3):
+            index.add(FIRST, label)
+            index.add(SECOND, 9)
+            index.undo()
+            words["keep"](index, f"{folder}/zones")
+            again = words["reopened"](f"{folder}/zones")
+            count.expect("what is kept", (shown(again), os.listdir(folder)), ((*shown(index)[:2], 0), ["zones"]))
+
+
+def walk_between(count, seed):
+    """Two random indexes: the entries from one to the other, and the rows by which one goes down to what is common."""
+    chance = random.Random(seed)
+    writer = Writer(chance, Model())
+    pairs = [(writer.cell(), writer.label()) for _ in range(chance.choice([1, 9, 200]))]
+    first, second = ({pair: chance.randrange(1, 5) for pair in pairs if chance.random() < 0.6} for _ in range(2))
+    indexes = [Index.load("".join(f"{line}\n" for line in Model(held).dump())) for held in (first, second)]
+    wanted = [(*pair, before, after) for pair, before, after in differences(first, second)]
+    entries = indexes[0].difference(indexes[1])
+    count.expect(f"the difference of walk {seed}", entries, wanted)
+    if entries:
+        count.expect(f"its record in walk {seed}", (indexes[0].record(entries), indexes[0].dump(), indexes[0].change(1)), (len(entries), indexes[1].dump(), entries))
+        indexes[0].undo()
+    rows = [(cell, label, 1) for (cell, label), copies in first.items() for _ in range(chance.randrange(copies + 1))]
+    chance.shuffle(rows)
+    if rows:
+        left = dict(first)
+        for cell, label, _ in rows:
+            left[cell, label] -= 1
+        left = {pair: copies for pair, copies in left.items() if copies}
+        found = indexes[0].remove_all(rows), indexes[0].dump().splitlines()
+        count.expect(f"the removal of walk {seed}", found, (len(differences(first, left)), Model(left).dump()))
 
 
 def walk_on(count, seed):

@@ -96,6 +96,7 @@ class Zones:
             yield "many rows", [row.label for row in index.at(cells.range_min(FACES[5]))], list(range(MANY))
             yield "many labels", index.labels(FACES[5]), list(range(MANY))
             yield "of_label", index.of_label(zone.label), [zone, Row(FACES[5], zone.label, 1)]
+            yield "held_labels", {each.label: each[1:] for each in index.held_labels()}[zone.label], (2, zone.count + 1)
             yield "region", index.region(zone.label), [zone.cell, FACES[5]]
             yield "region_view", index.region_view(zone.label).tolist(), [zone.cell, FACES[5]]
 

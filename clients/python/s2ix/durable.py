@@ -11,7 +11,7 @@ from datetime import datetime, timezone
 from random import SystemRandom
 from typing import Any, Callable, Iterator, NamedTuple, Optional, TypeVar, Union
 
-from s2ix.given import MOST_U32, Cells, Rows, Text, bytes_of, check_natural
+from s2ix.given import MOST_U32, Cells, Entries, Rows, Text, bytes_of, check_natural
 from s2ix.index import Index, is_still
 from s2ix.refusals import Closed, NoDump, NoJournal, NoLimits, NothingToRedo, NothingToUndo, OutOfMemory, S2ixError, TooFewChanges
 from s2ix.tokens import Cell, token_of
@@ -21,10 +21,10 @@ _Made = TypeVar("_Made")
 _Writes = list[tuple[str, tuple[object, ...]]]
 
 # What marks a file as an index, and the form of its tables. A version is a number that no other step has. A start is the version with which
-# the dump was put there.
+# the dump was put there. `last` is the last id that was given, `many` how many changes there are, and `standing` how many of them stand.
 _MARK, _FORM = 0x53324958, 1
 _TABLES = """
-CREATE TABLE state (version INTEGER, start INTEGER, last INTEGER, many INTEGER, pairs INTEGER, copies INTEGER, changes INTEGER)
+CREATE TABLE state (version, start, last, many, standing, pairs, copies, changes, seal)
 CREATE TABLE dump (text TEXT, seal INTEGER)
 CREATE TABLE change (id INTEGER PRIMARY KEY, time TEXT, note TEXT, journal TEXT, seal INTEGER, undone INTEGER)
 """
@@ -70,6 +70,7 @@ class _Change(NamedTuple):
         return (*self, _seal(tuple(self)), int(is_undone))
 
 
+_STATE = "UPDATE state SET version = ?, start = ?, last = ?, many = ?, standing = ?, pairs = ?, copies = ?, changes = ?, seal = ?"
 _INSERT = "INSERT INTO change VALUES (?, ?, ?, ?, ?, ?)"
 _SELECT = "SELECT id, CAST(time AS BLOB), CAST(note AS BLOB), CAST(journal AS BLOB), seal, undone FROM change WHERE id > ? ORDER BY id"
 
@@ -77,6 +78,16 @@ _SELECT = "SELECT id, CAST(time AS BLOB), CAST(note AS BLOB), CAST(journal AS BL
 def _seal(given: tuple[object, ...]) -> int:
     """A number that shows whether a row is as it was written. (`repr` would show some texts in another way in a later Python.)"""
     return zlib.crc32(ascii(given).encode("ascii"))
+
+
+def _sealed(given: tuple[int, ...]) -> tuple[int, ...]:
+    return (*given, _seal(given))
+
+
+def _is_unflushed(raised: BaseException) -> bool:
+    """Whether what SQLite refused may be written but not flushed, SQLITE_IOERR_FSYNC. (Before Python 3.11 an error has no code, so any error
+    of a disk may be this one.)"""
+    return getattr(raised, "sqlite_errorcode", 1034) == 1034 and str(raised) == "disk I/O error"
 
 
 def _note_of(note: Optional[str]) -> Optional[str]:
@@ -101,13 +112,18 @@ class Durable(Index):
     the pairs, and all changes that can be undone or redone.
 
     Each edit may have a `note`. `log` lists the changes with their ids, times and notes, and `revert(id=7)` takes one back. If the file
-    refuses a step, as on a full disk, the step is taken back in memory, and NotKept is raised, with the file's own error as its cause. So
-    memory and file never differ. The index is closed if memory is wanted to take a step back, or if the file can't even say whether it has
-    the step: then its own error is raised. In a group nothing is written until its end.
+    refuses a step, as on a full disk, the step is taken back in memory, and NotKept is raised, with the file's own error as its cause. A
+    step that was written but not flushed is also written over, since SQLite would bring it back after a crash. So memory and file never
+    differ. The index is closed if memory is wanted to take a step back, or if the file can't even say whether it has the step, or can't
+    write over it: then its own error is raised, and what is opened next is as before or after the step. In a group nothing is written
+    until its end.
 
     One process writes to a file; others follow it by `read_only=True` and `refresh`. If another process has written to the file, each step
-    raises NotKept until `refresh` has brought the index up to date. Threads may share it: an edit waits for another thread's edit or group.
-    No finalizer or signal handler may make a step, and no forked child may use it.
+    that would write to it raises NotKept until `refresh` has brought the index up to date. Threads may share it: an edit waits for another
+    thread's edit or group. No finalizer or signal handler may make a step, and no forked child may use it.
+
+    After 100,000 changes, or as many as the limits say, an edit raises JournalFull: `forget_older` makes room. A dump comes into an open
+    index by one change, `zones.record(zones.difference(Index.load(dump)))`.
 
     >>> import os, tempfile
     >>> path = os.path.join(tempfile.mkdtemp(), "zones.db")
@@ -136,7 +152,7 @@ class Durable(Index):
         if synchronous not in ("FULL", "NORMAL"):
             raise ValueError(f"synchronous is FULL or NORMAL, not {synchronous!r}")
         widest = (pairs, 1_000_000), (copies, MOST_U32), (changes, 100_000)
-        self._limits = tuple(most if limit is None else operator.index(limit) for limit, most in widest)
+        self._limits = tuple(most if limit is None else int(operator.index(limit)) for limit, most in widest)
         super().__init__(*self._limits)
         self._turn, self._reads_only = threading.RLock(), read_only
         # The changes that can be undone; and those that can be redone, the next one last.
@@ -172,7 +188,8 @@ class Durable(Index):
                 for each in [*_TABLES.strip().splitlines(), f"PRAGMA application_id = {_MARK}", f"PRAGMA user_version = {_FORM}"]:
                     self._file.execute(each)
                 self._file.execute("INSERT INTO dump VALUES (?, ?)", (_EMPTY, _seal((_EMPTY,))))
-                self._file.execute("INSERT INTO state VALUES (0, 0, 0, 0, ?, ?, ?)", self._limits)
+                self._file.execute("INSERT INTO state (version) VALUES (0)")
+                self._file.execute(_STATE, _sealed((0, 0, 0, 0, 0, *self._limits)))
             self._file.execute("COMMIT")
         finally:
             self._roll_back()
@@ -208,15 +225,18 @@ class Durable(Index):
 
     def refresh(self) -> bool:
         """Brings the index up to what the file holds now, and returns whether that is something new: it takes back what was undone there
-        and does what was done. It costs what these steps do, or what opening does if changes were forgotten. Raises Closed, sqlite3.Error if
+        and does what was done. It costs what these steps do, and doing and undoing the changes that can be redone, which it reads again; or
+        what opening does if changes were forgotten. Raises Closed, sqlite3.Error if
         the file can't be read, Spoilt and OutOfMemory. The index is closed after OutOfMemory, and after Spoilt it may be if changes were
         forgotten."""
         with self._turn:
             super().done_count()
             self._expect_no_group()
-            self._file.execute("BEGIN")
             try:
-                version, start, last, many, *limits = self._state()
+                # (an interrupt may have left a transaction open)
+                self._roll_back()
+                self._file.execute("BEGIN")
+                version, start, last, many, stand, *limits = self._state()
                 if version == self._version:
                     return False
                 dump = self._dump() if start != self._start else None
@@ -229,6 +249,10 @@ class Durable(Index):
             finally:
                 self._roll_back()
             standing, undone = _read(found)
+            if last < (found[-1][0] if found else self._standing[keep - 1].id if keep else 0):
+                raise Spoilt(0, f"it has a change with an id above the last one, {last}")
+            if keep + len(standing) != stand:
+                raise Spoilt(0, f"in it {keep + len(standing)} changes stand in place of {stand}")
             try:
                 self._follow(dump, limits, keep, standing, undone)
                 self._limits = tuple(limits)
@@ -244,14 +268,15 @@ class Durable(Index):
     def _state(self) -> tuple[int, ...]:
         if self._asked("PRAGMA application_id") != _MARK or self._asked("PRAGMA user_version") != _FORM:
             raise Spoilt(0, "it is no file of an index, or of a later version")
-        state: tuple[int, ...] = self._file.execute("SELECT * FROM state").fetchone() or ()
-        if len(state) != 7 or not all(isinstance(each, int) for each in state):
-            raise Spoilt(0, "its state is wrong")
-        return state
+        state, *more = self._file.execute("SELECT * FROM state").fetchall() or [()]
+        if more or len(state) != 9 or not all(isinstance(each, int) for each in state) or state != _sealed(state[:-1]):
+            raise Spoilt(0, "its state is not as it was written")
+        found: tuple[int, ...] = state[:-1]
+        return found
 
     def _dump(self) -> bytes:
-        text, seal = self._file.execute("SELECT CAST(text AS BLOB), seal FROM dump").fetchone() or (b"", 0)
-        if not isinstance(text, bytes) or _seal((text.decode("ascii", "replace"),)) != seal:
+        (text, seal), *more = self._file.execute("SELECT CAST(text AS BLOB), seal FROM dump").fetchall() or [(b"", 0)]
+        if more or not isinstance(text, bytes) or _seal((text.decode("ascii", "replace"),)) != seal:
             raise Spoilt(0, "its dump is not as it was written")
         return text
 
@@ -301,8 +326,10 @@ class Durable(Index):
         it, it is as it was, and NotKept is raised."""
         version, last = SystemRandom().getrandbits(62), self._last if last is None else last
         noted = version, version if starts else self._start, last
-        writes = [*writes, ("UPDATE state SET version = ?, start = ?, last = ?, many = ?", (*noted, keep + len(standing) + len(undone)))]
+        stand = keep + len(standing)
+        writes = [*writes, (_STATE, _sealed((*noted, stand + len(undone), stand, *self._limits)))]
         try:
+            self._roll_back()
             self._file.execute("BEGIN IMMEDIATE")
             if self._asked("SELECT version FROM state") != self._version:
                 raise NotKept("another process has written to the file, so refresh the index")
@@ -316,6 +343,8 @@ class Durable(Index):
                 # (an interrupt came after the file had taken it)
                 self._book(*noted, keep, standing, undone)
             if is_of_file and not is_kept:
+                if _is_unflushed(raised):
+                    self._write_over()
                 raise NotKept(raised) from raised
             if not is_of_file:
                 raise
@@ -325,6 +354,20 @@ class Durable(Index):
         try:
             self._roll_back()
             return bool(self._asked("SELECT version FROM state") == version)
+        except BaseException:
+            self.close()
+            raise
+
+    def _write_over(self) -> None:
+        """Writes over a step that is written but not flushed. If that is refused too, the index is closed."""
+        try:
+            version = SystemRandom().getrandbits(62)
+            self._file.execute("BEGIN IMMEDIATE")
+            # (another process that wrote meanwhile has done it)
+            if self._asked("SELECT version FROM state") == self._version:
+                self._file.execute(_STATE, _sealed((version, *self._state()[1:])))
+                self._version = version
+            self._file.execute("COMMIT")
         except BaseException:
             self.close()
             raise
@@ -358,6 +401,8 @@ class Durable(Index):
 
     def _text(self, first: int, last: int) -> str:
         """The journal of the changes from one number to another."""
+        if last == super().done_count():
+            return super().journal(first)
         changes = [super(Durable, self).change(number) for number in range(first, last + 1)]
         lines = [
             line for entries in changes
@@ -410,6 +455,10 @@ class Durable(Index):
         """As `Index.remove`."""
         return self._step(note, super().remove, cell, label, copies)
 
+    def remove_all(self, rows: Rows, *, note: Optional[str] = None) -> int:
+        """As `Index.remove_all`."""
+        return self._step(note, super().remove_all, rows)
+
     def add_union(self, cells: Cells, label: int, *, note: Optional[str] = None) -> int:
         """As `Index.add_union`."""
         return self._step(note, super().add_union, cells, label)
@@ -417,6 +466,10 @@ class Durable(Index):
     def drop_label(self, label: int, *, note: Optional[str] = None) -> int:
         """As `Index.drop_label`."""
         return self._step(note, super().drop_label, label)
+
+    def set_label(self, label: int, cells: Cells, *, note: Optional[str] = None) -> int:
+        """As `Index.set_label`."""
+        return self._step(note, super().set_label, label, cells)
 
     def relabel(self, source: int, target: int, *, note: Optional[str] = None) -> int:
         """As `Index.relabel`."""
@@ -440,12 +493,16 @@ class Durable(Index):
                 change = next((number for number, each in enumerate(self._standing, 1) if each.id == id), 0)
             return self._step(note, super().revert, change)
 
+    def record(self, entries: Entries, *, note: Optional[str] = None) -> int:
+        """As `Index.record`."""
+        return self._step(note, super().record, entries)
+
     def apply(self, journal: Text, *, note: Optional[str] = None) -> int:
         """As `Index.apply`: each change has a row of its own."""
         return self._step(note, super().apply, journal)
 
     def line(self, text: Text, *, note: Optional[str] = None) -> str:
-        """As `Index.line`. Raises NotKept too."""
+        """As `Index.line`, but in a group a line "undo" takes back what was done in it, and raises no RuntimeError. Raises NotKept too."""
         given = bytes_of(text)
         steps: dict[str, Callable[[], Optional[int]]] = {"undo": self.undo, "redo": self.redo, "forget": self.forget}
         step = steps.get(given.decode("utf-8", "surrogateescape").strip(_SPACES))
@@ -461,7 +518,8 @@ class Durable(Index):
     @contextmanager
     def group(self, *, note: Optional[str] = None) -> Iterator[None]:
         """As `Index.group`: the file keeps it as one change, with this note and no other, or not at all. Other threads' edits wait until it
-        ends. In it `redo` does again only what was undone in it. Raises NotKept too; then all is undone."""
+        ends. In it `redo` does again only what was undone in it. Raises NotKept too; then all is undone. What a group did that failed can't
+        be redone, unlike in `Index.group`; what could be redone before it still can."""
         note = _note_of(note)
         with self._turn:
             self._expect_writer()
@@ -553,12 +611,13 @@ class Durable(Index):
         self._commit(writes, keep, new, later[::-1], self._last + 1 + len(later))
 
     def forget(self) -> None:
-        """As `Index.forget`: a dump takes the place of all changes in the file. Raises NotKept too."""
+        """As `Index.forget`: a dump takes the place of all changes in the file. O(n) for n pairs. Raises NotKept too."""
         with self._turn:
             self._start_from(self.dump(), len(self._standing), [], super().forget)
 
     def forget_older(self, newest: int) -> None:
-        """As `Index.forget_older`: the newest changes keep their ids, and a dump takes the place of the others. Raises NotKept too."""
+        """As `Index.forget_older`: the newest changes keep their ids, and a dump takes the place of the others. O(n + m log n) for n pairs
+        and m entries of the changes that stay. Raises NotKept too."""
         newest = check_natural(min(newest, MOST_U32), MOST_U32, TooFewChanges, "newest")
         with self._turn:
             done = super().done_count()

@@ -5,22 +5,26 @@ import ctypes
 import operator
 import struct
 from array import array
+from functools import partial
 from itertools import chain, starmap
-from typing import Any, Iterable, Optional, Union
+from typing import Any, Callable, Iterable, Optional, Union
 
-from s2ix.refusals import NoCell, NoLabel, S2ixError, TooManyCopies, named, placed
+from s2ix.refusals import Mismatch, NoCell, NoLabel, NotHeld, S2ixError, TooManyCopies, named, placed
 from s2ix.tokens import Cell, cell_of, is_cell, no_cell
 
 #: A text: what it says, or its bytes.
 Text = Union[str, bytes, bytearray, memoryview]
 #: One cell, or many: of any order, and repeated or not. A memoryview or array of 64-bit numbers is passed on as it lies.
 Cells = Union[Cell, Iterable[Cell], memoryview, "array[int]"]
-#: Rows to add, each a cell, a label and copies. A writable memoryview of packed rows is passed on as it lies.
+#: Rows to add or to remove, each a cell, a label and copies. A writable memoryview of packed rows is passed on as it lies.
 Rows = Union[Iterable["tuple[Cell, int, int]"], memoryview]
+#: The entries of a change, each a cell, a label and the counts before and after: by rising cell, then label.
+Entries = Iterable["tuple[Cell, int, int, int]"]
 
 MOST_U8, MOST_U32, MOST_U64 = 255, 4_294_967_295, 18_446_744_073_709_551_615
+MOST_LABEL = 2_147_483_647
 _WORD = 8
-_row = struct.Struct("=QII")
+_row, _entry = struct.Struct("=QII"), struct.Struct("=QIII4x")
 _TEXTS = (str, bytes, bytearray, memoryview)
 # Where no cells lie. It is never written to.
 _NONE = ctypes.c_uint64()
@@ -111,11 +115,12 @@ def wrong_cell(*lists: tuple[int, int]) -> S2ixError:
     return NoCell()
 
 
-def rows_in(rows: Rows) -> tuple[int, int, object]:
-    """Where packed rows lie, how many there are, and what keeps them there."""
+def rows_in(rows: Rows, too_many: type[S2ixError] = TooManyCopies) -> tuple[int, int, object]:
+    """Where packed rows lie, how many there are, and what keeps them there. Too many copies have a refusal of the call's own."""
     view = _view_of(rows)
     if view is None:
-        words = array("Q", _packed_rows(rows))
+        packed_alone = partial(_packed_row, too_many)
+        words = array("Q", _packed(rows, _row, packed_alone, "row", 3, "rows are each a cell, a label and copies"))
     else:
         if view.itemsize not in (2 * _WORD, 0) or view.ndim != 1:
             raise TypeError(f"packed rows are of 16 bytes in one row, not memory of {view.format!r}")
@@ -128,18 +133,27 @@ def rows_in(rows: Rows) -> tuple[int, int, object]:
     return (start, many // 2, words) if many else (ctypes.addressof(_NONE), 0, words)
 
 
-def _packed_rows(rows: Any) -> bytes:
-    kept = list(rows)
+def _packed(items: Any, layout: struct.Struct, packed_alone: Callable[..., bytes], kind: str, size: int, words: str) -> bytes:
+    """Items of so many numbers in a layout; if some don't fit, each by itself."""
+    kept = list(items)
     # (a text has items too: three bytes would be a row)
-    if isinstance(rows, str) or any(issubclass(kind, _TEXTS) for kind in set(map(type, kept))):
-        raise TypeError("rows are each a cell, a label and copies, not a text")
+    if isinstance(items, str) or any(issubclass(kind, _TEXTS) for kind in set(map(type, kept))):
+        raise TypeError(f"{words}, not a text")
     try:
-        return b"".join(starmap(_row.pack, kept))
+        return b"".join(starmap(layout.pack, kept))
     except struct.error:
-        return b"".join(_packed_row(place, *row) for place, row in enumerate(kept))
+        return b"".join(packed_alone(place, *_expect_size(item, size, f"{kind} {place}")) for place, item in enumerate(kept))
 
 
-def _packed_row(place: int, cell: Cell, label: int, copies: int) -> bytes:
+def _expect_size(item: Any, size: int, name: str) -> tuple[Any, ...]:
+    """The numbers of an item, if it has as many."""
+    numbers = tuple(item)
+    if len(numbers) != size:
+        raise TypeError(f"{name} has {len(numbers)} items, not {size}")
+    return numbers
+
+
+def _packed_row(too_many: type[S2ixError], place: int, cell: Cell, label: int, copies: int) -> bytes:
     """A row by itself, which is refused by its place if it doesn't fit."""
     refused: object = cell
     try:
@@ -147,17 +161,51 @@ def _packed_row(place: int, cell: Cell, label: int, copies: int) -> bytes:
         refused = label
         check(label, MOST_U32, NoLabel)
         refused = copies
-        check_natural(copies, MOST_U32, TooManyCopies, "copies")
+        check_natural(copies, MOST_U32, too_many, "copies")
     except S2ixError as refusal:
         raise placed(named(type(refusal), str(refusal), refused), "row", place) from None
     return _row.pack(number, operator.index(label), operator.index(copies))
 
 
 def wrong_row(refusal: type[S2ixError], start: int, place: int) -> S2ixError:
-    """The refusal of a row's cell or label, by the row's place in rows that lie packed at an address."""
-    number, label, _ = _row.unpack(ctypes.string_at(start + place * _row.size, _row.size))
-    named_alone = no_cell(number) if refusal is NoCell else named(refusal, f"{label} is no label", label)
-    return placed(named_alone, "row", place)
+    """The refusal of a row's cell, label or copies, by the row's place in rows that lie packed at an address."""
+    number, label, copies = _row.unpack(ctypes.string_at(start + place * _row.size, _row.size))
+    return placed(named(refusal, str(refusal()), copies) if refusal is NotHeld else _wrong_pair(refusal, number, label), "row", place)
+
+
+def _wrong_pair(refusal: type[S2ixError], number: int, label: int) -> S2ixError:
+    return no_cell(number) if refusal is NoCell else named(refusal, f"{label} is no label", label)
+
+
+def entries_in(entries: Entries) -> tuple[int, int, object]:
+    """Where packed entries lie, how many there are, and what keeps them there."""
+    words = array("Q", _packed(entries, _entry, _packed_entry, "entry", 4, "entries are each a cell, a label and two counts"))
+    start, many = words.buffer_info()
+    return (start, many // 3, words) if many else (ctypes.addressof(_NONE), 0, words)
+
+
+def _packed_entry(place: int, cell: Cell, label: int, before: int, after: int) -> bytes:
+    """An entry by itself, which is refused by its place if it doesn't fit."""
+    refused: object = cell
+    try:
+        number = number_of(cell)
+        refused = label
+        check(label, MOST_U32, NoLabel)
+        refused = after
+        check_natural(after, MOST_U32, TooManyCopies, "a count")
+    except S2ixError as refusal:
+        raise placed(named(type(refusal), str(refusal), refused), "entry", place) from None
+    if check_natural(before, MOST_U64, Mismatch, "a count") > MOST_U32:
+        raise Mismatch(1, place + 1, place)
+    return _entry.pack(number, operator.index(label), operator.index(before), operator.index(after))
+
+
+def wrong_entry(refusal: type[S2ixError], start: int, place: int) -> S2ixError:
+    """The refusal of an entry by its place in entries that lie packed at an address."""
+    number, label, *_ = _entry.unpack(ctypes.string_at(start + place * _entry.size, _entry.size))
+    if refusal is Mismatch:
+        return Mismatch(1, place + 1, place)
+    return placed(_wrong_pair(refusal, number, label) if refusal in (NoCell, NoLabel) else refusal(), "entry", place)
 
 
 def number_of(cell: Cell) -> int:

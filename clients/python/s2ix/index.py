@@ -6,17 +6,15 @@ from contextlib import contextmanager
 from ctypes import addressof
 from typing import Any, Callable, Iterator, Optional, TypeVar
 
-from s2ix.calls import Calls
+from s2ix.batches import labels_of_each, rows_of_each
+from s2ix.edits import Edits
 from s2ix.given import (
-    MOST_U8, MOST_U32, MOST_U64, Cells, Rows, Text, bytes_of, cells_copied, cells_in, check, check_natural, number_of, rows_in, wrong_cell,
-    wrong_row,
+    MOST_U32, MOST_U64, Cells, Text, bytes_of, cells_copied, cells_in, check, check_natural, number_of, wrong_cell,
 )
-from s2ix.refusals import (
-    REFUSALS, NoCell, NoLabel, NoLimits, NoRange, NoSuchChange, NotHeld, NothingToUndo, S2ixError, TooFewChanges, TooFine,
-    TooManyCopies, expect, expect_at,
-)
+from s2ix.refusals import NoCell, NoLabel, NoLimits, NoRange, NoSuchChange, NothingToUndo, TooFewChanges, expect, expect_at
 from s2ix.rows import (
-    ENTRY, HALF, PACKED, WORD, Entry, Range, Row, entries_of, labels_of, new_row, numbers_of, row_in, rows_of, text_of, view_of, words_of,
+    ENTRY, HALF, HELD, PACKED, WORD, Entry, HeldLabel, Range, Row, entries_of, held_of, labels_of, new_row, numbers_of, row_in, rows_of,
+    text_of, view_of, words_of,
 )
 from s2ix.tokens import Cell, no_cell
 
@@ -31,7 +29,7 @@ def is_still(line: bytes) -> bool:
     return line.startswith(_STILL) or line.lstrip().startswith(_STILL)
 
 
-class Index(Calls):
+class Index(Edits):
     """A collection of S2 cells under labels that can be edited, undone and asked. Each pair of a cell and a label has a count.
 
     Cells are S2's 64-bit ids, or tokens; labels are 0 to 2147483647. Anything with an `__index__` is a number, as those of numpy. Each edit
@@ -41,12 +39,12 @@ class Index(Calls):
 
     Close an index by `close`, or use it in a `with`.
 
-    Threads may share an index. Each call answers as if it were alone: it writes only to memory of its own, and waits while another call on
-    the index runs. A finalizer or a signal handler may call too. An edit of another thread may come between two calls: hold your own lock
-    over calls that belong together. `undo` takes the last change back, whichever thread made it. Only one thread at a time may use an
-    iterator. It reads page by page: if an edit came after its first page, even a refused one, the next page raises RuntimeError. While a
-    call runs, don't change the array or the memory that you gave it. In the forked child of a process with threads, use no index of the
-    parent.
+    Threads may share an index. Each call but `set_label` answers as if it were alone: it writes only to memory of its own, and waits while
+    another call on the index runs. A finalizer or a signal handler may call too. An edit of another thread may come between two calls: hold
+    your own lock over calls that belong together. `undo` takes the last change back, whichever thread made it. Only one thread at a time
+    may use an iterator. It reads page by page: if an edit came after its first page, even a refused one, the next page raises RuntimeError.
+    While a call runs, don't change the array or the memory that you gave it. In the forked child of a process with threads, use no index of
+    the parent.
 
     >>> with Index() as index:
     ...     index.add_union(["04", "0c"], 9)
@@ -177,150 +175,6 @@ class Index(Calls):
         self._calls.s2ix_close(self._at_handle)
         self._close.detach()
 
-    def add(self, cell: Cell, label: int, copies: int = 1) -> int:
-        """Adds copies (1 to 4294967295) to the count of a cell under a label; returns how many pairs changed. Raises NoCell, NoLabel, and
-        what each edit may.
-
-        >>> index = Index()
-        >>> index.add("04", 9), index.add("04", 9, copies=2), index.count("04", 9)
-        (1, 1, 3)
-        """
-        number = number_of(cell)
-        label = check(label, MOST_U32, NoLabel)
-        copies = check_natural(copies, MOST_U32, TooManyCopies, "copies")
-        try:
-            return self._edited(self._number_of, self._calls.s2ix_add, number, label, copies)
-        except NoCell:
-            raise no_cell(number) from None
-
-    def add_all(self, rows: Rows) -> int:
-        """Adds rows, each a cell, a label and copies, as one change: in any order, and repeated or not; returns how many pairs changed. All
-        are added, or none. Each row keeps its cell: only `add_union` normalises. O(m log m) for m rows, besides the time of an edit.
-        `meet_view` says how rows in a memoryview are packed. Raises NoCell or NoLabel, with the wrong value of the first wrong row and its
-        place, counted from 0; and what each edit may.
-
-        >>> index = Index()
-        >>> index.add_all([("0c", 9, 1), ("04", 9, 2), ("0c", 9, 1)]), index.count("0c", 9), index.done_count()
-        (2, 2, 1)
-        """
-        start, many, _kept = rows_in(rows)
-        number = ctypes.c_size_t()
-        status = self._edited(self._calls.s2ix_add_all, self._at_handle, start, many, addressof(number))
-        if status in (NoCell.status, NoLabel.status):
-            raise wrong_row(REFUSALS[status], start, number.value)
-        expect(status)
-        return number.value
-
-    def remove(self, cell: Cell, label: int, copies: int = 1) -> int:
-        """Takes copies (1 to 4294967295) from the count of a cell under a label; returns how many pairs changed. A pair of count 0 is held
-        no more. Raises NoCell, NoLabel, NotHeld, and what each edit may.
-
-        >>> index = Index()
-        >>> index.add("04", 9, copies=3), index.remove("04", 9, copies=2), index.count("04", 9)
-        (1, 1, 1)
-        >>> index.remove("04", 9, copies=2)
-        Traceback (most recent call last):
-        s2ix.refusals.NotHeld: too few copies are held
-        """
-        number = number_of(cell)
-        label = check(label, MOST_U32, NoLabel)
-        copies = check_natural(copies, MOST_U32, NotHeld, "copies")
-        try:
-            return self._edited(self._number_of, self._calls.s2ix_remove, number, label, copies)
-        except NoCell:
-            raise no_cell(number) from None
-
-    def add_union(self, cells: Cells, label: int) -> int:
-        """Adds one copy under a label for each cell of the normal form of a union; returns how many pairs changed. So a cell within another
-        adds nothing, nor does a repeated one, and four children are added as their parent; `add_all` adds each cell as it is. Raises NoCell
-        with the first number that is no cell's and its place, NoLabel, and what each edit may.
-
-        >>> index = Index()
-        >>> index.add_union(["04", "0c", "14", "1c"], 9), [hex(row.cell) for row in index]
-        (1, ['0x1000000000000000'])
-        """
-        label = check(label, MOST_U32, NoLabel)
-        start, many, _kept = cells_in(cells)
-        try:
-            return self._edited(self._number_of, self._calls.s2ix_add_union, start, many, label)
-        except NoCell:
-            raise wrong_cell((start, many)) from None
-
-    def drop_label(self, label: int) -> int:
-        """Takes away all copies of a label's pairs; returns how many pairs there were. Raises NoLabel, NoSuchLabel, and what each edit may.
-
-        >>> index = Index()
-        >>> index.add_union(["04", "0c"], 9), index.drop_label(9), len(index)
-        (2, 2, 0)
-        """
-        label = check(label, MOST_U32, NoLabel)
-        return self._edited(self._number_of, self._calls.s2ix_drop_label, label)
-
-    def relabel(self, source: int, target: int) -> int:
-        """Moves all copies of one label to another, cell by cell, and adds them to what that has; returns how many pairs changed, those of
-        either label. Raises NoLabel, NoSuchLabel, and what each edit may.
-
-        >>> index = Index()
-        >>> index.add("04", 7), index.relabel(7, 8), index.labels("04")
-        (1, 2, [8])
-        """
-        source = check(source, MOST_U32, NoLabel)
-        target = check(target, MOST_U32, NoLabel)
-        return self._edited(self._number_of, self._calls.s2ix_relabel, source, target)
-
-    def grow(self, label: int, level: int) -> int:
-        """Adds one copy under a label for each cell of a level (0 to 30) that overlaps no cell of the label and shares an edge with a cell
-        of the level that overlaps one; returns how many pairs changed. Raises NoLabel, NoSuchLabel, and what each edit may, and TooFine for
-        a level above 30, or more than 8 finer than some cell of the label.
-
-        >>> index = Index()
-        >>> index.add("1", 9), index.grow(9, level=0), [hex(row.cell)[2] for row in index]
-        (1, 4, ['1', '3', '5', '9', 'b'])
-        """
-        label = check(label, MOST_U32, NoLabel)
-        level = check_natural(level, MOST_U8, TooFine, "level")
-        return self._edited(self._number_of, self._calls.s2ix_grow, label, level)
-
-    def normalise_label(self, label: int) -> int:
-        """Replaces a label's pairs by one copy at each cell of the label's region; returns how many pairs changed. Raises NoLabel,
-        NoSuchLabel, and what each edit may.
-
-        >>> index = Index()
-        >>> index.add_all([("1", 9, 1), ("04", 9, 2)]), index.normalise_label(9), len(index)
-        (2, 1, 1)
-        """
-        label = check(label, MOST_U32, NoLabel)
-        return self._edited(self._number_of, self._calls.s2ix_normalise_label, label)
-
-    def revert(self, change: int) -> int:
-        """Takes back a change and leaves those that followed it; returns how many pairs changed. The changes that can be undone are
-        numbered, the oldest as 1. This is a change of its own. Raises NoSuchChange, BelowZero, and what each edit may.
-
-        >>> index = Index()
-        >>> index.add("04", 9), index.add("04", 3), index.revert(1), index.labels("04"), index.done_count()
-        (1, 1, 1, [3], 3)
-        """
-        change = check(change, MOST_U32, NoSuchChange)
-        return self._edited(self._number_of, self._calls.s2ix_revert, change)
-
-    def apply(self, journal: Text) -> int:
-        """Does the changes of a journal, which another index did from the same pairs on: all, or none. Each can be undone by itself.
-        Returns how many pairs have another count than before. O(n + m log n) for n bytes and pairs and m entries. What is refused first is
-        raised: NoJournal, whose `line` is the faulty one; JournalFull; or Mismatch, TooManyCopies or TooManyPairs, whose `change` is the
-        refused one, counted from 1; and Closed or OutOfMemory.
-
-        >>> index, other = Index(), Index()
-        >>> index.add("04", 9), other.apply(index.journal()), other.count("04", 9), other.undo()
-        (1, 1, 1, 1)
-        """
-        return self._edited(self._apply, bytes_of(journal))
-
-    def _apply(self, journal: bytes) -> int:
-        number, place, entry = ctypes.c_size_t(), ctypes.c_size_t(), ctypes.c_size_t()
-        told = addressof(number), addressof(place), addressof(entry)
-        expect_at(self._calls.s2ix_apply(self._at_handle, journal, len(journal), *told), place.value, entry.value)
-        return number.value
-
     # Steps.
 
     @contextmanager
@@ -353,8 +207,8 @@ class Index(Calls):
 
     def join(self, last: int) -> int:
         """Makes one change of the last ones that can be undone, so many of them; returns how many pairs it has. If their counts are what
-        they were before, the changes are gone, and it returns 0. What is held stays, and so does what can be redone. O(n + m log n) for m
-        entries. Raises Closed, TooFewChanges or OutOfMemory.
+        they were before, the changes are gone, and it returns 0. What is held stays, and so does what can be redone. O(m log k) for m
+        entries in k changes. Raises Closed, TooFewChanges or OutOfMemory.
 
         >>> index = Index()
         >>> index.add("04", 9), index.add("0c", 9), index.join(2), index.done_count(), index.undo()
@@ -444,6 +298,38 @@ class Index(Calls):
             return self._listed(self._calls.s2ix_at, PACKED, rows_of, leaf)
         except NoCell:
             raise no_cell(leaf, "leaf") from None
+
+    def at_each(self, leaves: Cells, threads: int = 1) -> tuple[Any, Any]:
+        """What `at` returns for each of many leaves, as two arrays: how many rows there are up to and with each leaf, and the rows of all,
+        one leaf after the other, packed as those of `meet_view`. So the rows of the second leaf are `rows[ends[0]:ends[1]]`.
+
+        An array or a memoryview of 64-bit integers in one row, with or without sign, is read as it lies, also a column of pandas; a
+        nullable column is copied. The answer is of NumPy's arrays if NumPy is installed, else an `array` of numbers and a memoryview of
+        rows. The leaves are cut among so many threads, which take turns and save no time if Python has a GIL; all are answered from what is
+        held when the call begins. O(p + m log n + k) for m leaves and k rows, with p as in `copy`. If one is refused, none is answered.
+        Raises Closed, OutOfMemory, or NoCell with the first number that is no leaf's and its place, counted from 0; TypeError for arrays of
+        other numbers, and for missing values; and ValueError for threads below 1.
+
+        >>> index = Index()
+        >>> index.add("1", 3), index.add("04", 9)
+        (1, 1)
+        >>> ends, rows = index.at_each([0x0400000000000001, 0x2000000000000001, 0x1000000000000001])
+        >>> ends.tolist(), len(rows)
+        ([2, 2, 3], 3)
+        """
+        return rows_of_each(self, leaves, threads)
+
+    def labels_at_each(self, leaves: Cells, threads: int = 1) -> tuple[Any, Any]:
+        """As `at_each`, but with labels in place of rows: how many there are up to and with each leaf, and the labels of all leaves.
+
+        >>> index = Index()
+        >>> index.add("1", 3), index.add("04", 9)
+        (1, 1)
+        >>> ends, labels = index.labels_at_each([0x0400000000000001, 0x2000000000000001, 0x1000000000000001])
+        >>> ends.tolist(), labels.tolist()
+        ([2, 2, 3], [9, 3, 3])
+        """
+        return labels_of_each(self, leaves, threads)
 
     def meet(self, cells: Cells) -> list[Row]:
         """The pairs that share a leaf with a union of cells: each once, by first shared leaf, then falling level, then rising label.
@@ -548,6 +434,23 @@ class Index(Calls):
         number = check(number, MOST_U32, NoSuchChange)
         return self._listed(self._calls.s2ix_change, ENTRY, entries_of, number)
 
+    def difference(self, other: Index) -> list[Entry]:
+        """The entries that lead from what this index holds to what another does: the pairs whose counts differ, by rising cell, then label.
+        `record` of them gives this one the other's pairs, by one change, or raises NoChange if there are none. O(n + m) for the pairs of
+        both. Raises Closed or OutOfMemory.
+
+        >>> index, other = Index(), Index()
+        >>> index.add("04", 9), other.add("0c", 9)
+        (1, 1)
+        >>> index.record(index.difference(other)), index.difference(other), index.dump() == other.dump()
+        (2, [], True)
+        """
+        if not isinstance(other, Index):
+            raise TypeError(f"an Index differs from another, not from {type(other).__name__}")
+        # (a copy, which no other thread has: its lock need not be taken too)
+        with Index.copy(other) as after:
+            return self._listed(self._calls.s2ix_difference, ENTRY, entries_of, after._at_handle)
+
     def range(self, place: int) -> Range:
         """The range at a place, counted from 0. An edit may move the places. O(log n). Raises Closed or NoRange."""
         place = check(place, MOST_U64, NoRange)
@@ -622,6 +525,16 @@ class Index(Calls):
         label = check(label, MOST_U32, NoLabel)
         return self._listed(self._calls.s2ix_of_label, PACKED, rows_of, label)
 
+    def held_labels(self) -> list[HeldLabel]:
+        """The labels that are held, rising, each with how many pairs have it and the sum of their counts. O(n log n). Raises Closed or
+        OutOfMemory.
+
+        >>> index = Index()
+        >>> index.add_all([("04", 9, 2), ("0c", 9, 1), ("04", 3, 1)]), index.held_labels()
+        (3, [HeldLabel(label=3, pairs=1, copies=1), HeldLabel(label=9, pairs=2, copies=3)])
+        """
+        return self._listed(self._calls.s2ix_held_labels, HELD, held_of)
+
     def pairs(self) -> Iterator[Row]:
         """All pairs, in rising order of cell, then label. O(log n) for each. They are read page by page, so don't edit while you go along
         them: a page raises RuntimeError if there was an edit, even a refused one, since the first page. Raises Closed.
@@ -658,20 +571,21 @@ class Index(Calls):
         """
         return self._listed(self._calls.s2ix_dump, 1, text_of)
 
-    def journal(self) -> str:
-        """The journal of the changes that can be undone, the oldest first, which `replay`, `rewind` and the program read. O(n) for n
-        entries. Raises Closed or OutOfMemory.
+    def journal(self, first: int = 1) -> str:
+        """The journal of the changes that can be undone, the oldest first, which `replay`, `rewind` and the program read: of all, or from the
+        one with the number `first` on, which is what an index needs for `apply` that has done those before it. If that is one more than the
+        last number, it is the journal of no changes. O(n) for n entries. Raises Closed, NoSuchChange or OutOfMemory.
 
         >>> index = Index()
-        >>> index.add("04", 9)
-        1
-        >>> print(index.journal(), end="")
+        >>> index.add("0c", 9), index.add("04", 9)
+        (1, 1)
+        >>> print(index.journal(2), end="")
         s2ix-journal 2
         change 1
         04 9 0 1
         end 1
         """
-        return self._listed(self._calls.s2ix_journal, 1, text_of)
+        return self._listed(self._calls.s2ix_journal_from, 1, text_of, check(first, MOST_U32, NoSuchChange))
 
     def export(self) -> str:
         """What is held as one line of compact JSON, without a line feed. O(n). Raises Closed or OutOfMemory.

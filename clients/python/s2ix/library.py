@@ -33,6 +33,12 @@ class PackedEntry(ctypes.Structure):
     _fields_ = [("cell", u64), ("label", u32), ("before", u32), ("after", u32)]
 
 
+class PackedLabel(ctypes.Structure):
+    """A label that is held, with its pairs and copies, as it lies in a buffer."""
+
+    _fields_ = [("label", u32), ("pairs", u32), ("copies", u64)]
+
+
 class Square(ctypes.Structure):
     """A cell as a square of the grid of its level on its face."""
 
@@ -53,12 +59,14 @@ CALLS = {
     "s2ix_add": [address, u64, u32, u32, address],
     "s2ix_add_all": [address, address, size, address],
     "s2ix_remove": [address, u64, u32, u32, address],
+    "s2ix_remove_all": [address, address, size, address],
     "s2ix_add_union": [address, address, size, u32, address],
     "s2ix_drop_label": [address, u32, address],
     "s2ix_relabel": [address, u32, u32, address],
     "s2ix_grow": [address, u32, u8, address],
     "s2ix_normalise_label": [address, u32, address],
     "s2ix_revert": [address, u32, address],
+    "s2ix_record": [address, address, size, address],
     "s2ix_undo": [address, address],
     "s2ix_redo": [address, address],
     "s2ix_apply": [address, address, size, address, address, address],
@@ -72,6 +80,7 @@ CALLS = {
     "s2ix_labels": [address, address, size, address, size, address],
     "s2ix_region": [address, u32, address, size, address],
     "s2ix_of_label": [address, u32, address, size, address],
+    "s2ix_held_labels": [address, address, size, address],
     "s2ix_pairs": [address, size, address, size, address],
     "s2ix_count": [address, u64, u32, address],
     "s2ix_len": [address, address],
@@ -79,6 +88,7 @@ CALLS = {
     "s2ix_done_count": [address, address],
     "s2ix_undone_count": [address, address],
     "s2ix_change": [address, u32, address, size, address],
+    "s2ix_difference": [address, address, address, size, address],
     "s2ix_faces_rebuilt": [address, address],
     "s2ix_range_count": [address, address],
     "s2ix_find": [address, u64, address, address, address],
@@ -88,6 +98,7 @@ CALLS = {
     "s2ix_previous_full": [address, size, address],
     "s2ix_dump": [address, address, size, address],
     "s2ix_journal": [address, address, size, address],
+    "s2ix_journal_from": [address, u32, address, size, address],
     "s2ix_export": [address, address, size, address],
     "s2ix_line": [address, address, size, address, size, address],
     "s2ix_cell_is_valid": [u64],

@@ -2,14 +2,14 @@
 nothing."""
 from __future__ import annotations
 
-from typing import Optional
+from typing import Any, Optional
 
 
 class S2ixError(Exception):
     """What each refusal of the index is. `status` is its number in C. `change` is the number of the refused change of a journal, or 0.
 
     `value` is the refused number or token, and `place` its place in the list that was passed, counted from 0. NoCell has a value if a
-    number or token is no cell's, and so has each refusal of a row. Without a value or a list they are None.
+    number or token is no cell's, and so has each refusal of a row. A refused entry has a place too. Without a value or a list they are None.
 
     >>> from s2ix import NoCell, unions
     >>> try:
@@ -37,6 +37,9 @@ class NoDump(S2ixError):
         super().__init__(f"{self.__doc__}: line {line} is the first with a fault")
         self.line = line
 
+    def __reduce__(self) -> Any:
+        return type(self), (self.line,), self.__dict__
+
 
 class NoJournal(S2ixError):
     """the text is no journal"""
@@ -47,15 +50,22 @@ class NoJournal(S2ixError):
         super().__init__(f"{self.__doc__}: line {line} is the first with a fault")
         self.line = line
 
+    def __reduce__(self) -> Any:
+        return type(self), (self.line,), self.__dict__
+
 
 class Mismatch(S2ixError):
     """a change has another count than is held"""
 
     status = 29
 
-    def __init__(self, change: int = 0, entry: int = 0) -> None:
-        super().__init__(f"{self.__doc__}: entry {entry} of change {change}")
-        self.change, self.entry = change, entry
+    def __init__(self, change: int = 0, entry: int = 0, place: Optional[int] = None) -> None:
+        # (an entry that was passed in a list has a place there)
+        super().__init__(f"{self.__doc__}: entry {entry} of change {change}" if place is None else f"entry {place}: another count is held")
+        self.change, self.entry, self.place = change, entry, place
+
+    def __reduce__(self) -> Any:
+        return type(self), (self.change, self.entry, self.place), self.__dict__
 
 
 #: The class of each status.
@@ -89,6 +99,8 @@ Coarser = _refusal(25, "Coarser", "the level is coarser than the cell's")
 NoSpan = _refusal(26, "NoSpan", "the bounds are no span of leaves")
 NoRange = _refusal(27, "NoRange", "no range is at the place")
 TooFewChanges = _refusal(30, "TooFewChanges", "fewer changes can be undone")
+Unsorted = _refusal(31, "Unsorted", "an entry is not above the one before it")
+NoDifference = _refusal(32, "NoDifference", "an entry has two equal counts")
 
 
 def expect(status: int) -> None:

@@ -8,8 +8,8 @@ from typing import Callable, NamedTuple
 
 from s2ix import library
 
-# How many bytes a packed row has, a packed entry, a cell and a label.
-PACKED, ENTRY, WORD, HALF = 16, 24, 8, 4
+# How many bytes a packed row has, a packed entry, a cell, a label, and a packed label with its pairs and copies.
+PACKED, ENTRY, WORD, HALF, HELD = 16, 24, 8, 4, 16
 
 
 class Row(NamedTuple):
@@ -29,6 +29,14 @@ class Entry(NamedTuple):
     after: int
 
 
+class HeldLabel(NamedTuple):
+    """A label that is held: how many pairs have it, and the sum of their counts."""
+
+    label: int
+    pairs: int
+    copies: int
+
+
 class Range(NamedTuple):
     """Neighbouring leaves over which the same pairs lie: the range's place, counted from 0, the number of its first leaf, the first leaf
     number after it, and whether no pair lies over it."""
@@ -42,7 +50,7 @@ class Range(NamedTuple):
 row_in, _rows_in = struct.Struct("=QII").unpack_from, struct.Struct("=QII").iter_unpack
 new_row: Callable[[type[Row], tuple[int, ...]], Row] = tuple.__new__
 _row_of: Callable[[tuple[int, ...]], Row] = functools.partial(new_row, Row)
-_entries_in = struct.Struct("=QIII4x").iter_unpack
+_entries_in, _held_in = struct.Struct("=QIII4x").iter_unpack, struct.Struct("=IIQ").iter_unpack
 
 
 def rows_of(packed: memoryview) -> list[Row]:
@@ -57,6 +65,10 @@ def view_of(rows: memoryview) -> memoryview:
 
 def entries_of(packed: memoryview) -> list[Entry]:
     return list(map(Entry._make, _entries_in(packed)))
+
+
+def held_of(packed: memoryview) -> list[HeldLabel]:
+    return list(map(HeldLabel._make, _held_in(packed)))
 
 
 def labels_of(packed: memoryview) -> list[int]:
