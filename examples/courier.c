@@ -1,4 +1,5 @@
-/* A day of a delivery service: zones are laid, a courier is asked about, and one zone is withdrawn by its change. It prints courier.txt.
+/* A day of a delivery service: zones are laid, a courier is asked about, and one zone is withdrawn by its change. The next day goes on from
+   the first one's dump and journal. It prints courier.txt.
 
        cc courier.c $(pkg-config --cflags --libs s2ix) -o courier && ./courier */
 #include <stdio.h>
@@ -35,7 +36,8 @@ int main(void) {
     size_t number = 0;
     uint32_t labels[ROOM] = {0};
     uint64_t cells[ROOM] = {0};
-    uint8_t dump[1024] = {0};
+    uint8_t text[1024] = {0};
+    size_t dump = 0, journal = 0, place = 0, entry = 0;
     done(s2ix_open(&zones, 1000, 100, 100));
     /* Each edit is a change: these are the first to the fourth. */
     done(s2ix_add_union(&zones, centre, 3, CENTRE, &number)), printf("the centre has %zu cells\n", number);
@@ -53,6 +55,13 @@ int main(void) {
     done(s2ix_region(&zones, STATION, cells, ROOM, &number)), printf("the station's region:");
     for (size_t k = 0; k < number; k++) printf(" "), print_token(cells[k]);
     puts("");
-    done(s2ix_dump(&zones, dump, sizeof dump, &number)), fwrite(dump, 1, number, stdout);
+    /* At night a program keeps both texts in a file. */
+    done(s2ix_dump(&zones, text, sizeof text, &dump));
+    done(s2ix_journal(&zones, text + dump, sizeof text - dump, &journal)), fwrite(text, 1, dump + journal, stdout);
+    s2ix_close(&zones);
+    done(s2ix_resume(&zones, text, dump, text + dump, journal, 1000, 100, 100, &place, &entry));
+    done(s2ix_done_count(&zones, &number)), printf("the next day %zu changes can be taken back\n", number);
+    done(s2ix_revert(&zones, 3, &number)), printf("the roads of the day before are open: %zu pair changed\n", number);
+    show("where is the courier?", &zones);
     s2ix_close(&zones);
 }

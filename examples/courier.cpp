@@ -1,4 +1,5 @@
-// A day of a delivery service: zones are laid, a courier is asked about, and one zone is withdrawn by its change. It prints courier.txt.
+// A day of a delivery service: zones are laid, a courier is asked about, and one zone is withdrawn by its change. The next day goes on from
+// the first one's dump and journal. It prints courier.txt.
 //
 //     c++ -std=c++17 courier.cpp $(pkg-config --cflags --libs s2ix) -o courier && ./courier
 #include <iostream>
@@ -41,5 +42,12 @@ int main() {
   std::cout << "the last change is undone: " << zones.undo() << " pair is back\n";
   std::cout << "the station's region:";
   for (std::uint64_t cell : zones.region(kStation)) std::cout << ' ' << s2ix::cell::to_token(cell);
-  std::cout << '\n' << zones.dump();
+  // At night a program keeps both texts in a file.
+  const std::string dump = zones.dump(), journal = zones.journal();
+  std::cout << '\n' << dump << journal;
+
+  s2ix::Index again = s2ix::Index::resume(dump, journal);
+  std::cout << "the next day " << again.done_count() << " changes can be taken back\n";
+  std::cout << "the roads of the day before are open: " << again.revert(3) << " pair changed\n";
+  Show("where is the courier?", again.at(kCourier));
 }

@@ -1,5 +1,6 @@
 #!/usr/bin/env python3
-"""A day of a delivery service: zones are laid, a courier is asked about, and one zone is withdrawn by its change. Prints courier.txt.
+"""A day of a delivery service: zones are laid, a courier is asked about, and one zone is withdrawn by its change. The next day goes on from
+the first one's dump and journal. Prints courier.txt.
 
     S2IX_LIBRARY=path/to/libs2ix.so PYTHONPATH=clients/python examples/courier.py
 """
@@ -34,4 +35,11 @@ with Index() as zones:
         print("a second time is refused: none is held")
     print("the last change is undone:", zones.undo(), "pair is back")
     print("the station's region:", *map(token_of, zones.region(STATION)))
-    print(zones.dump(), end="")
+    # At night a program keeps both texts in a file.
+    dump, journal = zones.dump(), zones.journal()
+    print(dump, journal, sep="", end="")
+
+with Index.load(dump, journal=journal) as zones:
+    print("the next day", zones.done_count(), "changes can be taken back")
+    print("the roads of the day before are open:", zones.revert(3), "pair changed")
+    show("where is the courier?", zones.at(COURIER))
