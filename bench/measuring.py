@@ -34,7 +34,7 @@ class Measured:
 
     def __init__(self, sizes):
         self.sizes = sizes
-        self.times, self.programs, self.instructions, self.edits = {}, {}, {}, {}
+        self.times, self.programs, self.instructions, self.edits, self.files = {}, {}, {}, {}, {}
 
     def measure_sessions(self, seconds):
         for size in self.sizes:
@@ -60,6 +60,13 @@ class Measured:
                 for name, figure in program_times(folder).items():
                     self.programs[name, size] = figure
 
+    def measure_files(self):
+        say("measuring an index in a file")
+        around = {**os.environ, "S2IX_LIBRARY": f"{OUT}/libs2ix.so"}
+        for line in lines_of([sys.executable, f"{TOP}/bench/in_a_file.py", OUT], env=around):
+            name, figure = line.split("\t")
+            self.files[name] = float(figure)
+
     def count_instructions(self):
         for size in self.sizes:
             if size <= MOST_COUNTED:
@@ -69,9 +76,9 @@ class Measured:
                     self.instructions[name, size] = figure
 
 
-def lines_of(words):
+def lines_of(words, **how):
     """The lines that a program of the bench prints."""
-    ran = subprocess.run(words, stdout=subprocess.PIPE, text=True)
+    ran = subprocess.run(words, stdout=subprocess.PIPE, text=True, **how)
     if ran.returncode:
         sys.exit(f"bench: this failed: {' '.join(words)}")
     return ran.stdout.splitlines()

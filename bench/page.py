@@ -2,6 +2,7 @@
 import os
 import platform
 import re
+import sqlite3
 import subprocess
 
 import making
@@ -9,6 +10,10 @@ from measuring import is_of_index
 
 UNITS = {"adds and build": "a pair", "build of a table": "a pair", "load of a dump": "a pair", "edit with a query": "an edit",
          "point": "a point", "8 cells": "a target", "500 cells": "a target"}
+
+
+FILES = {"FULL": "edits a second, `synchronous=\"FULL\"`", "NORMAL": "edits a second, `synchronous=\"NORMAL\"`", "in memory": "edits a second of an `Index`, which has no file",
+         "open": "ms to open the file with 10,000 changes", "open compact": "ms to open it once `compact` has forgotten these"}
 
 
 def digits(number):
@@ -76,6 +81,13 @@ def programs_table(measured):
     return table_of(measured.programs, names_of(measured.programs), measured.sizes, "ms, ours : S2")
 
 
+def files_table(measured):
+    yield "| `s2ix.Durable` | |"
+    yield "|---|---|"
+    for name, words in FILES.items():
+        yield f"| {words} | {digits(measured.files[name])} |"
+
+
 def instructions_table(measured):
     sizes = [size for size in measured.sizes if any(counted == size for _, counted in measured.instructions)]
     return table_of(measured.instructions, names_of(measured.instructions), sizes, "instructions, ours : S2")
@@ -83,7 +95,7 @@ def instructions_table(measured):
 
 def tables(measured):
     """All tables as one text."""
-    parts = [index_table(measured), edits_table(measured), ids_table(measured), programs_table(measured)]
+    parts = [index_table(measured), edits_table(measured), ids_table(measured), programs_table(measured), files_table(measured)]
     if measured.instructions:
         parts.append(instructions_table(measured))
     return "\n\n".join("\n".join(part) for part in parts)
@@ -135,7 +147,7 @@ def write(measured):
     text = PAGE.format(
         machine=machine(), system=system(), s2=making.version_of("libs2-dev"), compiler=said_by("g++", "--version").splitlines()[0],
         index=joined(index_table(measured)), edits=joined(edits_table(measured)), ids=joined(ids_table(measured)), programs=joined(programs_table(measured)),
-        ahead=behind, counted=counted)
+        files=joined(files_table(measured)), python=platform.python_version(), sqlite=sqlite3.sqlite_version, ahead=behind, counted=counted)
     with open(f"{making.TOP}/docs/PERFORMANCE.md", "w", encoding="utf-8") as file:
         file.write(text)
 
@@ -199,4 +211,11 @@ region.
 `s2ix run --load DUMP` beside a small C++ program over S2 that reads the same dump and script and tests neither. *Load* is a run with an
 empty script, and at few pairs mostly the start of a process with S2's shared libraries. The others are what their scripts take beyond it:
 100,000 points, 20,000 targets of 8 cells, 500 of 500.
+
+## An index in a file
+
+{files}
+
+By Python {python} with SQLite {sqlite}, over 10,000 pairs: the best of several runs, by the clock, since an edit waits for the disk. Each edit
+adds one pair by a call of its own, and is in the file when the call returns.
 {counted}"""
