@@ -55,7 +55,7 @@ def words_in(leaves: Cells) -> memoryview:
     """Leaves as 64-bit numbers without sign: as they lie, if they lie in one row."""
     given: Any = leaves
     if hasattr(given, "filled"):
-        raise TypeError("leaves are in an array without a mask")
+        raise TypeError("leaves are in a plain array, not in a masked one")
     try:
         # (a column of pandas has no memory to look at, but the array that it gives has some; a nullable one gives objects, if not asked)
         dtype = getattr(getattr(given, "dtype", None), "numpy_dtype", None)
