@@ -85,6 +85,21 @@ first_start held from to starts t =
     (within, omega arith)
 
 -- the range that a search finds
+pub last_found : (held : Collection) (from to : ℕ) (starts : List ℕ) (leaf k : ℕ) → IsTableOver held from to (ranges_from held starts to)
+    → IsFound (ranges_from held starts to) k leaf → IsLastStart starts leaf k
+last_found held from to starts leaf k t found =
+    let n = length_ranges held starts to in
+    let within = found.within in
+    let start = found.start in
+    let limit = found.limit in
+    let listed : k < length starts = omega arith in
+    let e = range_start held starts to k 0 listed in
+    record {
+      within = listed;
+      by = omega arith;
+      next = λ less. let f = range_limit held starts to k (k + 1) 0 (omega arith) less in omega arith;
+    }
+
 pub found_start : (held : Collection) (from to : ℕ) (starts : List ℕ) (leaf k : ℕ) → IsTableOver held from to (ranges_from held starts to)
     → leaf < to → IsLastStart starts leaf k → IsFound (ranges_from held starts to) k leaf
 found_start held from to starts leaf k t on l =

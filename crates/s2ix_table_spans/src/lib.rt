@@ -15,4 +15,5 @@ mod span_table;
 mod splice;
 mod sweep;
 
+pub use places::{is_last_start, step_ahead};
 pub use span_table::SpanTable;

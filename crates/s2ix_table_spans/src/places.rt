@@ -1,5 +1,5 @@
 //! Places of ranges in a table.
-ghost use Rattle.std.specs.Prelude.{◌≡◌, ℕ, ◌-◌, ◌%◌, ◌<◌, ◌≤◌, drop, length, slice_index_or, AllPairs};
+ghost use Rattle.std.specs.Prelude.{◌≡◌, ◌↔◌, ℕ, ◌-◌, ◌%◌, ◌<◌, ◌≤◌, IsTrue, drop, length, slice_index_or, AllPairs};
 ghost use Rattle.s2ix_table_walk.specs.Stretches.{IsSample};
 ghost use Rattle.s2ix_table_spans.specs.Starts.{IsAmong, IsLastStart};
 
@@ -92,6 +92,26 @@ fn far_last(starts: &[u64], leaf: u64, among: Window) -> usize
     first
 }
 
+// The last of rising starts that is not after a leaf, from one on that isn't. It tries those that are 1, 3, 7 and so on farther ahead, and
+// then looks between the last two. O(log d) for one that is d places ahead.
+#[inline(always)]
+pub(crate) fn last_ahead(starts: &[u64], leaf: u64, from: usize) -> usize
+    requires rises { AllPairs (λ a b. a < b) starts.now }
+    requires odd { (k : ℕ) → k < length starts.now → slice_index_or starts.now k 0 % 2 ≡ 1 }
+    requires within { from < length starts.now }
+    requires by { slice_index_or starts.now from 0 ≤ leaf }
+    ensures { IsLastStart starts.now leaf result }
+{
+    let mut first = from;
+    let mut step = 1;
+    while step < starts.len() - first && starts[first + step] <= leaf {
+        first += step;
+        step *= 2;
+    }
+    let size = step.min(starts.len() - first);
+    last_among(starts, leaf, Window { first, size })
+}
+
 // The last of rising starts that is not after a leaf, if it is among some of them. No branch depends on a start: they are in the
 // processor's cache.
 #[inline(always)]
@@ -111,12 +131,34 @@ fn last_among(starts: &[u64], leaf: u64, among: Window) -> usize
     first
 }
 
+/// A step of a search among rising, odd starts for the last one that is not after a leaf: from a place to that so many places ahead if the
+/// start there, or the last one before it, is not after the leaf. Any place is accepted; one past the end stands for the last. From the
+/// first place, steps that are powers of two find it, down to 1. No clause says so, since a caller looks at what they find. No branch depends
+/// on a start, so the processor can take steps of many searches at once. O(1).
+#[inline(always)]
+pub fn step_ahead(starts: &[u64], leaf: u64, from: usize, step: usize) -> usize
+    requires { 0 < length starts.now }
+{
+    let next = from.saturating_add(step).min(starts.len() - 1);
+    // (the step is multiplied: of a product with a difference the compiler makes a branch)
+    from.saturating_add(step * reached(starts[next], leaf))
+}
+
+/// Whether the start at a place is the last one that is not after a leaf. Any place is accepted. O(1).
+#[inline(always)]
+pub fn is_last_start(starts: &[u64], leaf: u64, place: usize) -> bool
+    ensures { IsTrue result ↔ IsLastStart starts.now leaf place }
+{
+    let next = place.wrapping_add(1);
+    place < starts.len() && starts[place] <= leaf && (next == starts.len() || leaf < starts[next])
+}
+
 // 1 if an odd start is not after a leaf, else 0, as the sign of what lies between them.
 #[inline(always)]
 fn reached(start: u64, leaf: u64) -> usize
-    requires { start % 2 ≡ 1 }
-    ensures by { start ≤ leaf → result ≡ 1 }
-    ensures after { leaf < start → result ≡ 0 }
+    ensures by { start % 2 ≡ 1 → start ≤ leaf → result ≡ 1 }
+    ensures after { start % 2 ≡ 1 → leaf < start → result ≡ 0 }
+    ensures most { result ≤ 1 }
 {
     let above = leaf - leaf / 2;
     let between = (start / 2).wrapping_sub(above);

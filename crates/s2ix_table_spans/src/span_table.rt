@@ -1,4 +1,4 @@
-ghost use Rattle.std.specs.Prelude.{◌≡◌, ◌-◌, ◌<◌, ◌≤◌, ◌∷◌, IfOk, length, drop, take, map};
+ghost use Rattle.std.specs.Prelude.{◌≡◌, ◌↔◌, ◌-◌, ◌<◌, ◌≤◌, ◌∷◌, IfOk, IsTrue, length, drop, take, map};
 ghost use Rattle.s2id_core.specs.CellId.{raw_of};
 ghost use Rattle.s2ix_bag_pairs.specs.Collection.{IsCollection};
 ghost use Rattle.s2ix_table_walk.specs.Table.{Range, range_at, IsFound};
@@ -10,7 +10,7 @@ ghost use Rattle.s2ix_table_spans.specs.Starts.{AreEnds};
 ghost use Rattle.s2ix_table_spans.specs.SpanTable.{IsInSpan, IsSpanTable};
 
 use crate::nodes::Nodes;
-use crate::places::{last_of_sampled, last_start};
+use crate::places::{is_last_start, last_ahead, last_of_sampled, last_start};
 use crate::sample::sample_of;
 use crate::splice::Before;
 use s2id_core::{CellId, OutOfMemory};
@@ -280,5 +280,29 @@ impl SpanTable {
         ensures { IsFound self.now.ranges result (raw_of leaf) }
     {
         last_of_sampled(self.starts.as_slice(), self.sample.as_slice(), leaf.raw())
+    }
+
+    /// The range that has a leaf of the span, as [`find`](SpanTable::find) gives it. `near` is the place of a range: any number is accepted.
+    /// O(log d) if the leaf is in the range at `near` or in the d-th after it, else O(log n).
+    #[inline]
+    pub fn find_near(&self, leaf: CellId, near: usize) -> usize
+        requires begins { self.now.from ≤ raw_of leaf }
+        requires ends { raw_of leaf < self.now.to }
+        ensures { IsFound self.now.ranges result (raw_of leaf) }
+    {
+        if near < self.starts.len() && self.starts[near] <= leaf.raw() {
+            last_ahead(self.starts.as_slice(), leaf.raw(), near)
+        } else {
+            self.find(leaf)
+        }
+    }
+
+    /// Whether a range has a leaf of the span. Any place is accepted. O(1).
+    #[inline]
+    pub fn has_at(&self, leaf: CellId, place: usize) -> bool
+        requires { raw_of leaf < self.now.to }
+        ensures { IsTrue result ↔ IsFound self.now.ranges place (raw_of leaf) }
+    {
+        is_last_start(self.starts.as_slice(), leaf.raw(), place)
     }
 }

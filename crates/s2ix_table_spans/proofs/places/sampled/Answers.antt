@@ -1,5 +1,4 @@
-use Rattle.std.proofs.Common.{arith}
-use Rattle.s2ix_table_spans.proofs.Samples.{sample_rises, before_sample}
+use Rattle.s2ix_table_spans.proofs.Samples.{sample_rises}
 use Rattle.s2ix_table_spans.proofs.places.sampled.Goals as goal
 
 pub far_last-group-requires-clause-rises : goal.far_last-group-requires-clause-rises
