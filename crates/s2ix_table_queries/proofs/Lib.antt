@@ -2,3 +2,5 @@ pub mod Labelling
 pub mod Yielding
 pub mod Stretching
 pub mod Building
+pub mod Numbers
+pub mod LeafByLeaf

@@ -10,3 +10,5 @@ pub use Rattle.s2ix_table_walk.specs.Shown
 pub use Rattle.s2ix_table_walk.specs.Stretches
 pub mod Iterators
 pub mod Copied
+pub mod Leaf
+pub mod ManyLeaves

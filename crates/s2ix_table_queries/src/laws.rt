@@ -2,8 +2,13 @@
 ghost use Rattle.std.specs.Prelude.{◌≡◌, ◌↔◌, IsTrue, ◌+◌};
 ghost use Rattle.s2ix_table_queries.specs.declared.visit.Visit.{Visit};
 ghost use Rattle.s2ix_table_queries.specs.declared.copied.CopiedPlace.{CopiedPlace};
+ghost use Rattle.s2ix_table_queries.specs.declared.each.Each.{Each};
+ghost use Rattle.s2ix_table_queries.specs.declared.each.EachStop.{EachStop};
+ghost use Rattle.s2ix_table_queries.specs.declared.hint.LeafHint.{LeafHint};
 
 use crate::copied::CopiedPlace;
+use crate::each::{Each, EachStop};
+use crate::hint::LeafHint;
 use crate::iter::RangeIter;
 use crate::stretch::Stretch;
 use crate::table::RangeTable;
@@ -37,4 +42,34 @@ pub fn equal_copied_places_are_one()
 /// A clone of a place in a `CopiedTable` is the same.
 pub fn cloned_copied_places_are_the_same()
     ensures { (a copy : CopiedPlace) → ⟦<CopiedPlace as Clone>⟧.is_clone a copy ↔ (copy ≡ a) }
+{}
+
+/// Two answers of `at_each` are equal exactly if they are the same.
+pub fn equal_answers_are_one()
+    ensures { (a b : Each) → IsTrue (⟦<Each as PartialEq>⟧.eq a b) ↔ (a ≡ b) }
+{}
+
+/// A clone of an answer of `at_each` is the same.
+pub fn cloned_answers_are_the_same()
+    ensures { (a copy : Each) → ⟦<Each as Clone>⟧.is_clone a copy ↔ (copy ≡ a) }
+{}
+
+/// Two reasons why `at_each` ended are equal exactly if they are the same.
+pub fn equal_each_stops_are_one()
+    ensures { (a b : EachStop) → IsTrue (⟦<EachStop as PartialEq>⟧.eq a b) ↔ (a ≡ b) }
+{}
+
+/// A clone of a reason why `at_each` ended is the same.
+pub fn cloned_each_stops_are_the_same()
+    ensures { (a copy : EachStop) → ⟦<EachStop as Clone>⟧.is_clone a copy ↔ (copy ≡ a) }
+{}
+
+/// Two hints are equal exactly if they are the same.
+pub fn equal_hints_are_one()
+    ensures { (a b : LeafHint) → IsTrue (⟦<LeafHint as PartialEq>⟧.eq a b) ↔ (a ≡ b) }
+{}
+
+/// A clone of a hint is the same.
+pub fn cloned_hints_are_the_same()
+    ensures { (a copy : LeafHint) → ⟦<LeafHint as Clone>⟧.is_clone a copy ↔ (copy ≡ a) }
 {}

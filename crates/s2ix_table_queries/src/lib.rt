@@ -1,7 +1,7 @@
 //! The trait of range tables, and what is asked of any of them: what meets a union, what lies over a leaf, and range by range.
 //!
 //! A [`RangeTable`] keeps the ranges of a bag in order, and a chain of pairs for each. What meets a union is found by the `Meeting` of
-//! `s2ix_table_walk`, through a [`Meter`], which counts what is read; `find`, [`chain_at`] and [`ranges`] read the table itself.
+//! `s2ix_table_walk`, through a [`Meter`], which counts what is read; `find`, [`chain_at`], [`at_each`] and [`ranges`] read the table itself.
 //! [`CopiedTable`] keeps a list for each range: it is slow to build, and tests compare the tables of
 //! `s2ix_table` with it.
 #![tactic(auto)]
@@ -10,17 +10,25 @@ mod copied;
 mod copied_filter;
 mod copied_pairs;
 mod copied_range;
+mod each;
+mod hint;
 mod iter;
 mod labels;
 pub mod laws;
+mod leaf;
 mod meter;
+mod of_held;
 mod stretch;
 mod table;
 mod visit;
 
 pub use copied::{CopiedPlace, CopiedTable};
+pub use each::{Each, EachStop, at_each};
+pub use hint::LeafHint;
 pub use iter::{ChainIter, RangeIter, chain_at, contents, ranges};
+pub use leaf::{cell_of, leaf_of};
 pub use meter::Meter;
+pub use of_held::OfHeld;
 pub use stretch::Stretch;
 pub use table::RangeTable;
 pub use visit::Visit;

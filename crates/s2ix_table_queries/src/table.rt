@@ -12,6 +12,7 @@ ghost use Rattle.s2ix_table_walk.specs.Meeting.{IsMeetingList, IsLabelList, meet
 ghost use Rattle.s2ix_table_walk.specs.Calls.{MayVisit, CallsOn, Visits};
 ghost use Rattle.s2ix_table_walk.specs.Costs.{ranges_met, IsWalkCost};
 
+use crate::hint::LeafHint;
 use crate::labels::gather;
 use crate::meter::Meter;
 use crate::stretch::Stretch;
@@ -145,6 +146,20 @@ pub trait RangeTable: Sized {
         ensures { LeadsTo (chain self.now) result (contents_at (raw_of leaf) (pairs self.now)) }
     {
         self.first(self.find(leaf))
+    }
+
+    /// Looks for the ranges of some leaves, as many as there is room for hints of, and puts hints to the front that say where they are. No
+    /// clause says what a hint is: [`first_near`](RangeTable::first_near) is quicker by it. A table may look for many leaves at once, and so
+    /// be quicker than by [`first_over`](RangeTable::first_over) for each; by default it looks for none. O(log n) for each.
+    fn look_for(&self, leaves: &[CellId], hints: &mut [LeafHint]) {}
+
+    /// The place of the innermost pair over a leaf, as [`first_over`](RangeTable::first_over) gives it. Any `hint` is accepted. O(1) if it is
+    /// the one that [`look_for`](RangeTable::look_for) gave for the leaf.
+    fn first_near(&self, leaf: CellId, hint: LeafHint) -> Option<Self::Place>
+        requires { level_of leaf ≡ 30 }
+        ensures { LeadsTo (chain self.now) result (contents_at (raw_of leaf) (pairs self.now)) }
+    {
+        self.first_over(leaf)
     }
 
     // the pairs rise strictly, each with a count above 0

@@ -1,0 +1,13 @@
+-- The leaves whose pairs were put are answered.
+use Rattle.std.proofs.Common.{◌≡◌, ◌≤◌, ◌+◌, length}
+use Rattle.s2ix_table_queries.specs.ManyLeaves.{AreAnswered, over_first}
+use Rattle.s2ix_table_queries.proofs.each.put_batch.Given as goal
+
+abbrev pub invariant-loop-k : goal.invariant-loop-k
+invariant-loop-k g l =
+    AreAnswered g.R.OfHeld.of (g.T.RangeTable.pairs l.table) l.leaves l.put.answered l.ends l.out
+    × (l.put.count ≡ length (over_first l.put.answered l.leaves (g.T.RangeTable.pairs l.table)))
+    × (l.put.count ≤ length l.out)
+    × (length l.out ≡ length l.initial.out)
+    × (length l.ends ≡ length l.initial.ends)
+    × (l.put.answered ≡ l.fn.before.answered + l.k)

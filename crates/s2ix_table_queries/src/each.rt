@@ -1,0 +1,184 @@
+//! What lies over each of many leaves.
+ghost use Rattle.std.specs.Prelude.{◌≡◌, ◌≤◌, ◌<◌, ◌+◌, ◌++◌, ℕ, None, Some, IfSome, length, map, take};
+ghost use Rattle.s2ix_table_walk.specs.Contents.{contents_at};
+ghost use Rattle.s2ix_table_walk.specs.Places.{IsPlace, LeadsTo, from_place};
+ghost use Rattle.s2ix_table_queries.specs.ManyLeaves.{AreAnswered, IsBatchAt, IsNoLeaf, LacksRoom, leaf_in, over_first};
+
+use crate::hint::LeafHint;
+use crate::leaf::leaf_of;
+use crate::of_held::OfHeld;
+use crate::table::RangeTable;
+use s2id_core::CellId;
+
+/// How far [`at_each`] came.
+#[derive(Clone, Copy, Debug, PartialEq, Eq)]
+pub struct Each {
+    /// How many leaves are answered: those at the front of the list.
+    pub answered: usize,
+    /// Why the next one is not.
+    pub stop: EachStop,
+}
+
+/// Why [`at_each`] ended.
+#[derive(Clone, Copy, Debug, PartialEq, Eq)]
+pub enum EachStop {
+    /// All leaves are answered.
+    All,
+    /// The next number is no leaf's.
+    NoLeaf,
+    /// There is no room for what lies over the next leaf, or for its end.
+    NoRoom,
+}
+
+// Puts the pairs of a chain into a buffer, from a place of it on; returns where they end, or `None` if there is no room for them all.
+#[inline]
+fn put_chain<T: RangeTable, R: OfHeld>(
+    table: &T,
+    first: Option<T::Place>,
+    out: &mut [R],
+    from: usize,
+) -> Option<usize>
+    requires place { (p : T.Place) → first ≡ Some p → IsPlace (T.chain table.now) p }
+    requires room { from ≤ length out.old }
+    ensures same { length out.new ≡ length out.old }
+    ensures before { take from out.new ≡ take from out.old }
+    ensures end { IfSome result (λ end. end ≡ from + length (from_place (T.chain table.now) first)) }
+    ensures within { IfSome result (λ end. end ≤ length out.old) }
+    ensures put { IfSome result (λ end. take end out.new ≡ take from out.old ++ map R.of (from_place (T.chain table.now) first)) }
+    ensures short { result ≡ None → length out.old < from + length (from_place (T.chain table.now) first) }
+{
+    let mut at = from;
+    let mut next = first;
+    while let Some(place) = next {
+        if at >= out.len() {
+            return None;
+        }
+        out[at] = R::of_held(table.held_at(place));
+        at += 1;
+        next = table.outer(place);
+    }
+    Some(at)
+}
+
+// How many leaves a table looks for at once.
+const MOST: usize = 64;
+
+// The leaves of some numbers that follow one another in a list.
+#[derive(Drop)]
+struct Batch {
+    leaves: [CellId; MOST],
+    many: usize,
+}
+
+// The leaves of the numbers from a place on: at most as many as a batch has, up to the first number that is no leaf's. `None` if that is
+// the one at the place.
+#[inline]
+fn batch_at(numbers: &[u64], from: usize) -> Option<Batch>
+    requires { from < length numbers.now }
+    ensures batch { IfSome result (λ batch. IsBatchAt numbers.now from batch.leaves batch.many) }
+    ensures some { IfSome result (λ batch. 0 < batch.many) }
+    ensures none { result ≡ None → leaf_in numbers.now from ≡ None }
+{
+    let first = leaf_of(numbers[from])?;
+    let mut leaves = [first; MOST];
+    let mut many = 1;
+    while many < MOST && many < numbers.len() - from {
+        let Some(leaf) = leaf_of(numbers[from + many]) else {
+            return Some(Batch { leaves, many });
+        };
+        leaves[many] = leaf;
+        many += 1;
+    }
+    Some(Batch { leaves, many })
+}
+
+// How many of some leaves are answered, and how many pairs are put for these.
+#[derive(Clone, Copy)]
+struct Put {
+    answered: usize,
+    count: usize,
+}
+
+// Puts what lies over the next leaves of a list behind what is put for those that are answered, as long as there is room.
+#[inline]
+fn put_batch<T: RangeTable, R: OfHeld>(
+    table: &T,
+    leaves: &[u64],
+    batch: &Batch,
+    before: Put,
+    ends: &mut [usize],
+    out: &mut [R],
+) -> Put
+    requires before { AreAnswered R.of (T.pairs table.now) leaves.now before.answered ends.old out.old }
+    requires count { before.count ≡ length (over_first before.answered leaves.now (T.pairs table.now)) }
+    requires room { before.count ≤ length out.old }
+    requires batch { IsBatchAt leaves.now before.answered batch.now.leaves batch.now.many }
+    ensures same { length out.new ≡ length out.old }
+    ensures listed { length ends.new ≡ length ends.old }
+    ensures answered { AreAnswered R.of (T.pairs table.now) leaves.now result.answered ends.new out.new }
+    ensures count { result.count ≡ length (over_first result.answered leaves.now (T.pairs table.now)) }
+    ensures room { result.count ≤ length out.old }
+    ensures short { result.answered < before.answered + batch.now.many
+        → LacksRoom (T.pairs table.now) leaves.now result.answered ends.old out.old }
+{
+    let mut hints = [LeafHint::none(); MOST];
+    table.look_for(&batch.leaves[..batch.many], &mut hints);
+    let mut put = before;
+    for k in 0..batch.many {
+        if put.answered >= ends.len() {
+            return put;
+        }
+        let first = table.first_near(batch.leaves[k], hints[k]);
+        let Some(end) = put_chain(table, first, out, put.count) else {
+            return put;
+        };
+        ends[put.answered] = end;
+        put = Put {
+            answered: put.answered + 1,
+            count: end,
+        };
+    }
+    put
+}
+
+/// Puts what lies over each of some leaves into a buffer: what [`chain_at`](crate::chain_at) gives for the first leaf, then for the next,
+/// and so on. Beside each leaf, `ends` gets how many are put for it and those before it. The leaves are given by their numbers, as a
+/// column has them, in any order, repeated or not. It answers leaves up to the first number that is no leaf's, or as many as both
+/// buffers have room for; past the answers both buffers may be overwritten. It does not allocate. O(log n + k) for each leaf with k pairs over
+/// it; leaves that rise are quickest.
+pub fn at_each<T: RangeTable, R: OfHeld>(
+    table: &T,
+    leaves: &[u64],
+    ends: &mut [usize],
+    out: &mut [R],
+) -> Each
+    ensures answered { AreAnswered R.of (T.pairs table.now) leaves.now result.answered ends.new out.new }
+    ensures all { result.stop ≡ EachStop.All → result.answered ≡ length leaves.now }
+    ensures no_leaf { result.stop ≡ EachStop.NoLeaf → IsNoLeaf leaves.now result.answered }
+    ensures no_room { result.stop ≡ EachStop.NoRoom → LacksRoom (T.pairs table.now) leaves.now result.answered ends.old out.old }
+{
+    let mut put = Put {
+        answered: 0,
+        count: 0,
+    };
+    while put.answered < leaves.len() {
+        let Some(batch) = batch_at(leaves, put.answered) else {
+            return Each {
+                answered: put.answered,
+                stop: EachStop::NoLeaf,
+            };
+        };
+        let next = put.answered + batch.many;
+        put = put_batch(table, leaves, &batch, put, ends, out);
+        if put.answered < next {
+            return Each {
+                answered: put.answered,
+                stop: EachStop::NoRoom,
+            };
+        }
+    }
+    Each {
+        answered: put.answered,
+        stop: EachStop::All,
+    }
+}
