@@ -1,6 +1,6 @@
 ghost use Rattle.std.specs.Prelude.{◌≡◌, ◌≤◌, ◌<◌, ◌+◌, ◌*◌, ◌++◌, IfOk, IfSome, None, OnErr, OnOk, drop, length, set, take, vec_capacity, ℕ, map, slice_index_or, ◌≢◌, ◌∷◌, false};
 ghost use Rattle.s2id_core.specs.BinaryDigits.{binary_digits};
-ghost use Rattle.s2id_core.specs.CellId.{raw_of};
+ghost use Rattle.s2id_core.specs.CellId.{level_of, raw_of};
 ghost use Rattle.s2ix_bag_pairs.specs.Change.{changed};
 ghost use Rattle.s2ix_bag_pairs.specs.Collection.{IsCollection};
 ghost use Rattle.s2ix_bag_pairs.specs.OneProof.{IsCollection-prop};
@@ -32,27 +32,25 @@ use crate::counting::{Layout, begins_of, uncounted};
 use crate::entries_on::entries_on;
 use crate::face_after::Face;
 use crate::heavy_pairs::{HeavyPairs, all_are_chunks, set_face};
+use crate::looking::{look_along, look_apart, rise_closely};
 use crate::new_parts::{AllFaces, NewFace, NewParts, put_between};
 use crate::offset::{Offset, offset_by};
 use crate::pair_reader::PairReader;
 use crate::part_place::{FaceHeavyPlace, FacedPlace, PartPlace};
 use crate::read_faces::read_changed_lists;
 use crate::shares_chains::SharesChains;
-use crate::starts::{first_parts, start_by};
+use crate::starts::first_parts;
 use crate::tables::{read_all_faces, share};
 use s2id_core::{CellId, FACES, LEAF_END, OutOfMemory};
 use s2ix_bag_changes::{Bag, Change};
 use s2ix_bag_lists::HeldParts;
 use s2ix_bag_pairs::Held;
 use s2ix_table_heavy::HeavyPlace;
-use s2ix_table_queries::{RangeTable, Stretch};
+use s2ix_table_queries::{LeafHint, RangeTable, Stretch};
 use s2ix_table_spans::SpanTable;
 use s2ix_table_walk::{LeafWindow, RangeRow, Window};
 use std::alloc::Global;
 use std::sync::Arc;
-
-// The lists of more parts than this are out of the processor's cache.
-const MANY_PARTS: usize = 64;
 
 /// A range table in parts. Each part is a table with shared chains over some leaves of one face, and the pairs of heavy cells lie in chunks
 /// over the parts. A table that [`FacedTable::rebuilt`] makes of this one shares its parts. Ranges that meet where two parts do are one if
@@ -62,19 +60,19 @@ const MANY_PARTS: usize = 64;
 #[derive(Debug, Drop)]
 pub struct FacedTable {
     // neighbours, from the first leaf of face 0 to the last of face 5; each face begins a part
-    parts: Vec<Arc<SpanTable>>,
+    pub(crate) parts: Vec<Arc<SpanTable>>,
     // for each part the place among all of its first range, and the leaf number at which that range begins
-    offsets: Vec<Offset>,
+    pub(crate) offsets: Vec<Offset>,
     // the leaf number at which each part's span begins
-    starts: Vec<u64>,
+    pub(crate) starts: Vec<u64>,
     // which parts may have a leaf
-    blocks: Blocks,
+    pub(crate) blocks: Blocks,
     // for each face the number of its first part, and after the last face how many parts there are
     faces: [usize; FACES + 1],
     // how many ranges there are
     count: usize,
     // the heavy pairs of each face
-    heavy: [HeavyPairs; FACES],
+    pub(crate) heavy: [HeavyPairs; FACES],
     // for each part the place that leads to the heavy pairs over it
     overs: Vec<Option<HeavyPlace>>,
     ghost joined: { AreJoined (spans_of parts.items) (heavy_in heavy) starts.items offsets.items faces count } by { joined-prop (spans_of parts.items) (heavy_in heavy) starts.items offsets.items faces count },
@@ -210,8 +208,29 @@ impl RangeTable for FacedTable {
 
     #[inline]
     fn first_over(&self, leaf: CellId) -> Option<FacedPlace> {
-        let (part, found) = self.own_found(leaf);
-        self.first_at(part, found)
+        let part = self.part_with(leaf);
+        let found = self.found_in(part, leaf);
+        self.first_found(leaf, part, found)
+    }
+
+    // It gallops along leaves that rise closely, and takes steps of the searches for others side by side.
+    #[inline]
+    fn look_for(&self, leaves: &[CellId], hints: &mut [LeafHint]) {
+        let leaves = &leaves[..leaves.len().min(hints.len())];
+        if rise_closely(self, leaves) {
+            look_along(self, leaves, hints);
+        } else {
+            look_apart(self, leaves, hints);
+        }
+    }
+
+    #[inline]
+    fn first_near(&self, leaf: CellId, hint: LeafHint) -> Option<FacedPlace> {
+        if self.has_at(leaf, hint) {
+            self.first_found(leaf, hint.part, hint.range)
+        } else {
+            self.first_over(leaf)
+        }
     }
 }
 
@@ -577,7 +596,7 @@ impl FacedTable {
 
     // The table of a part.
     #[inline]
-    fn span(&self, part: usize) -> &SpanTable
+    pub(crate) fn span(&self, part: usize) -> &SpanTable
         requires { part < length (spans_of self.now.parts.items) }
         ensures { result.now ≡ table_of (spans_of self.now.parts.items) part }
     {
@@ -594,23 +613,8 @@ impl FacedTable {
             (place_on self.now.offsets.items result.0 result.1)
             (raw_of leaf) }
     {
-        let among = self.blocks.parts_with(&self.starts, leaf.raw());
-        let part = start_by(&self.starts, leaf.raw(), among);
+        let part = self.part_with(leaf);
         (part, self.found_in(part, leaf))
-    }
-
-    // The place in a part's table of the range that has a leaf. O(log n).
-    #[inline]
-    fn found_in(&self, part: usize, leaf: CellId) -> usize
-        requires { IsLastStart self.now.starts.items (raw_of leaf) part }
-        ensures { IsFound (table_of (spans_of self.now.parts.items) part).ranges result (raw_of leaf) }
-    {
-        let span = self.span(part);
-        if self.parts.len() > MANY_PARTS {
-            span.find_far(leaf)
-        } else {
-            span.find(leaf)
-        }
     }
 
     // The part that has a range, and the range's place in that part's table. O(log p).
@@ -684,7 +688,7 @@ impl FacedTable {
 
     // The place of a range's innermost pair, by the range's part and its place in that part's table.
     #[inline]
-    fn first_at(&self, part: usize, own: usize) -> Option<FacedPlace>
+    pub(crate) fn first_at(&self, part: usize, own: usize) -> Option<FacedPlace>
         requires { HasRange (spans_of self.now.parts.items) part own }
         ensures { LeadsTo (faced_chain (spans_of self.now.parts.items) self.now.heavy)
             result

@@ -12,6 +12,7 @@
 //! let labels: Vec<Label> = table.labels(alloc, &target)?; // their labels, each once, rising
 //! let none_twice = table.visit(&target, &mut |held: Held| held.count < 2); // one call for each pair, until it returns false
 //! let innermost = chain_at(&table, leaf).next(); // the innermost pair over one leaf
+//! let each = at_each(&table, &leaves, &mut ends, &mut labels); // the labels over many leaves, one leaf after the other
 //! for (k, row) in ranges(&table) { /* contents(&table, k) lie over the leaves from row.start up to row.limit */ }
 //! ```
 //!
@@ -20,6 +21,7 @@
 //! | Which pairs meet a union? | [`RangeTable::visit`], [`RangeTable::meeting`] | O(k + r + t log n) for k pairs, r ranges and t cells |
 //! | Which labels meet it? | [`RangeTable::labels`] | the same, and the sorting of the labels |
 //! | Which pairs lie over a leaf? | [`chain_at`] | O(log n + k) |
+//! | Which pairs lie over each of many leaves? | [`at_each`] | the same for each, and less for many, most of all if they rise |
 //! | Which range has a leaf? | [`RangeTable::find`], [`RangeIter::seek`] | O(log n) |
 //! | What lies over each range? | [`ranges`], [`contents`] | O(1) a step, but O(log p) for `contents` in a table of p parts |
 //! | What did a query read? | a [`Cost`], from `visit_counted`, or from a [`Meter`] after a [`walk`] | as `visit` |
@@ -50,6 +52,7 @@ mod heavy_pairs;
 pub mod laws;
 mod layers_after;
 mod light_after;
+mod looking;
 mod new_parts;
 mod offset;
 mod pair_reader;
@@ -74,8 +77,8 @@ pub use parts_changed::parts_after;
 pub use read_faces::{read_changed, read_face, read_list};
 pub use s2ix_table_heavy::HeavyPlace;
 pub use s2ix_table_queries::{
-    ChainIter, CopiedPlace, CopiedTable, Meter, RangeIter, RangeTable, Stretch, Visit, chain_at,
-    contents, ranges,
+    ChainIter, CopiedPlace, CopiedTable, Each, EachStop, LeafHint, Meter, OfHeld, RangeIter,
+    RangeTable, Stretch, Visit, at_each, cell_of, chain_at, contents, leaf_of, ranges,
 };
 pub use s2ix_table_spans::SpanTable;
 pub use s2ix_table_walk::{Cost, LeafWindow, Meeting, RangeRow, Reader, Window, walk};

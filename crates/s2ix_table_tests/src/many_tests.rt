@@ -2,7 +2,7 @@
 use s2id_core::{CellId, FACE_NUMBERS, LEAF_END};
 use s2id_union::CellUnion;
 use s2ix_bag::{Bag, Change, Entry, Held, Label, Limits, Pair};
-use s2ix_table::{ChainTable, FacedTable, RangeTable};
+use s2ix_table::{ChainTable, Each, EachStop, FacedTable, LeafHint, RangeTable, at_each};
 use std::alloc::Global;
 
 // The number of the first cell of level 9 on face 5.
@@ -55,6 +55,105 @@ fn finds_cells<T: RangeTable + Drop>(alloc: Global, bag: &Bag) -> Option<bool> {
         }
     }
     Some(true)
+}
+
+// The first leaves of some cells, each with the first leaf of face 0 behind it, which is in none of them.
+fn leaves_of(alloc: Global, cells: &[u64]) -> Option<Vec<u64>> {
+    let mut leaves = Vec::new(alloc);
+    for k in cells {
+        leaves.push(cell_at(*k)?.span_start()).ok()?;
+        leaves.push(1).ok()?;
+    }
+    Some(leaves)
+}
+
+// Whether a kind of table of a bag answers those leaves at once: each first one of two has the label.
+fn answers_leaves<T: RangeTable + Drop>(alloc: Global, bag: &Bag, leaves: &[u64]) -> Option<bool> {
+    let table = T::build(alloc, bag).ok()?;
+    let many = leaves.len();
+    let mut ends = Vec::from_elem(alloc, 0usize, many).ok()?;
+    let mut labels = Vec::from_elem(alloc, 0u32, many).ok()?;
+    let each = at_each(&table, leaves, &mut ends, &mut labels);
+    let is_whole = each
+        == Each {
+            answered: many,
+            stop: EachStop::All,
+        };
+    let are_counted = ends.iter().enumerate().all(|(k, end)| *end == k / 2 + 1);
+    let are_put = labels.iter().take(many / 2).all(|label| *label == 7);
+    Some(is_whole && are_counted && are_put)
+}
+
+// Whether each kind of table does.
+fn answer_leaves(alloc: Global, bag: &Bag, cells: &[u64]) -> Option<bool> {
+    let leaves = leaves_of(alloc, cells)?;
+    let chain = answers_leaves::<ChainTable>(alloc, bag, &leaves)?;
+    let faced = answers_leaves::<FacedTable>(alloc, bag, &leaves)?;
+    Some(chain && faced)
+}
+
+#[test]
+fn many_leaves_are_answered_at_once(rt: HostRuntime) {
+    let bag = wide_bag(rt.alloc()).expect(&rt, "a bag");
+    let mut cells = [0; 100];
+    for k in 0..100u64 {
+        cells[k as usize] = k * 7_919 % 20_000;
+    }
+    assert!(rt; answer_leaves(rt.alloc(), &bag, &cells) == Some(true));
+}
+
+// As above of rising leaves: the first ones of the first cells.
+fn answer_rising<T: RangeTable + Drop>(alloc: Global, bag: &Bag) -> Option<bool> {
+    let table = T::build(alloc, bag).ok()?;
+    let mut leaves = Vec::new(alloc);
+    for k in 0..200u64 {
+        leaves.push(cell_at(k)?.span_start()).ok()?;
+    }
+    let mut ends = Vec::from_elem(alloc, 0usize, 200).ok()?;
+    let mut held = Vec::from_elem(alloc, Label::new(0)?, 200).ok()?;
+    let each = at_each(&table, &leaves, &mut ends, &mut held);
+    let label = Label::new(7)?;
+    Some(each.answered == 200 && held.iter().all(|each| *each == label))
+}
+
+#[test]
+fn rising_leaves_are_answered_at_once(rt: HostRuntime) {
+    let bag = wide_bag(rt.alloc()).expect(&rt, "a bag");
+    assert!(rt; answer_rising::<FacedTable>(rt.alloc(), &bag) == Some(true));
+    assert!(rt; answer_rising::<ChainTable>(rt.alloc(), &bag) == Some(true));
+}
+
+// Where a table says that leaves are, if they are no more than 40.
+fn hints_for(table: &FacedTable, leaves: &[CellId]) -> [LeafHint; 40] {
+    let mut hints = [LeafHint::none(); 40];
+    table.look_for(leaves, &mut hints);
+    hints
+}
+
+// Whether a table finds 40 leaves of neighbouring cells one after the other as it does side by side, from the last to the first.
+fn looks_both_ways(alloc: Global, bag: &Bag, first: u64) -> Option<bool> {
+    let table = FacedTable::build(alloc, bag).ok()?;
+    let mut rising = Vec::new(alloc);
+    let mut falling = Vec::new(alloc);
+    for k in 0..40u64 {
+        rising
+            .push(cell_at(first.wrapping_add(k))?.range_min())
+            .ok()?;
+        falling
+            .push(cell_at(first.wrapping_add(39 - k))?.range_max())
+            .ok()?;
+    }
+    let along = hints_for(&table, &rising);
+    let apart = hints_for(&table, &falling);
+    Some(along.iter().eq(apart.iter().rev()))
+}
+
+#[test]
+fn leaves_are_found_side_by_side_as_one_by_one(rt: HostRuntime) {
+    let bag = wide_bag(rt.alloc()).expect(&rt, "a bag");
+    for first in [0u64, 500, 511, 512, 7_000, 19_960] {
+        assert!(rt; looks_both_ways(rt.alloc(), &bag, first) == Some(true));
+    }
 }
 
 #[test]

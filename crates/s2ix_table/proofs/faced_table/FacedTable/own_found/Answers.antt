@@ -1,23 +1,18 @@
-use Rattle.std.proofs.Common.{ℕ, ◌+◌, ◌<◌, List, length, AllPairs, ap, arith, refl, subst, sym}
+use Rattle.std.proofs.Common.{ℕ, ◌+◌, ◌<◌, length, arith, refl, subst, sym}
 use Rattle.s2id_core.specs.CellId.{raw_of}
 use Rattle.s2ix_table_walk.specs.Table.{IsFound}
 use Rattle.s2ix_table.specs.FaceSpans.{spans_of, table_of}
 use Rattle.s2ix_table.specs.Joined.{joined_ranges}
 use Rattle.s2ix_table.specs.Layered.{covered, heavy_in}
-use Rattle.s2ix_table.proofs.FirstParts.{length_starts, rising_starts}
+use Rattle.s2ix_table.proofs.FirstParts.{length_starts}
 use Rattle.s2ix_table.proofs.Reading.{found_in, place_of}
 use Rattle.s2ix_table.proofs.faced_table.FacedTable.own_found.Goals as goal
-
-pub parts_with-among-requires-clause-rises : goal.parts_with-among-requires-clause-rises
-parts_with-among-requires-clause-rises c =
-    subst (λ (ns : List ℕ). AllPairs (λ a b. a < b) ns) (sym c.deref.ensures.value) (rising_starts c.args.self.now.joined)
 
 pub returns-clause-found : goal.returns-clause-found
 returns-clause-found c =
     let t = c.args.self.now in
-    let part = c.start_by-part.result in
-    let within : part < length (spans_of t.parts.items) =
-    omega (arith, c.start_by-part.ensures.within, ap (λ (ns : List ℕ). length ns) c.deref-2.ensures.value, length_starts t.joined) in
+    let part = c.part_with-part.result in
+    let within : part < length (spans_of t.parts.items) = omega (arith, c.part_with-part.ensures.within, length_starts t.joined) in
     subst (λ (place : ℕ). IsFound (joined_ranges (covered (heavy_in t.heavy) (spans_of t.parts.items))) (place + c.found_in.result) (raw_of c.args.leaf))
     (sym (place_of part 0 t.joined within))
     (found_in part c.found_in.result (raw_of c.args.leaf) (table_of (spans_of t.parts.items) part) t.joined within refl c.found_in.ensures)

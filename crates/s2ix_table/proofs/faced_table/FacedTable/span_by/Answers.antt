@@ -1,0 +1,11 @@
+use Rattle.std.proofs.Common.{◌<◌, length, arith, sym, subst}
+use Rattle.s2ix_table_spans.specs.SpanTable.{IsSpanTable}
+use Rattle.s2ix_table.specs.FaceSpans.{spans_of}
+use Rattle.s2ix_table.proofs.Reading.{known, some_parts}
+use Rattle.s2ix_table.proofs.faced_table.FacedTable.span_by.Goals as goal
+
+pub returns : goal.returns
+returns c =
+    let t = c.args.self.now in
+    let within : c.min.result < length (spans_of t.parts.items) = omega (arith, c.min.ensures, c.part_count.ensures, some_parts t.joined) in
+    subst IsSpanTable (sym c.span.ensures) (known c.min.result t.joined within)
