@@ -11,6 +11,14 @@
    place of the first, counted from 0; with two lists the places count on through the second. s2ix_remove_all and s2ix_record tell the place
    for further statuses too.
 
+   A call that gives a list for each of many leaves or targets puts the lists one after the other. ends[k] becomes how many items the lists
+   have up to and with that of leaf or target k; `ends` has room for `ends_room` numbers. The call answers leaves or targets in their order,
+   and *answered is how many. If the status is not S2IX_DONE, it says why the next one is not answered. If that is S2IX_NO_ROOM, the next
+   one is right, but its list or its end has no room: the caller goes on from there, with more room if *answered is 0. The next call gets
+   leaves + *answered, or the same cells and bounds + *answered, and len - *answered. It counts from its own first list, and puts the ends to
+   ends + *answered or to `ends` again. Past the answers a call may overwrite both buffers. If the handle is closed, *answered is 0, and both
+   buffers stay as they were.
+
    There may be several reasons to refuse a call. An edit tells of a wrong cell or label first, then of a closed handle; any other call tells
    of a closed handle first. S2IX_OUT_OF_MEMORY comes after these. If memory is refused, it may come in place of a reason that the call has
    not looked for yet:
@@ -84,7 +92,7 @@ enum s2ix_status {
     S2IX_DONE = 0,
     S2IX_CLOSED = 1,          /* the handle is closed */
     S2IX_OUT_OF_MEMORY = 2,   /* memory was refused */
-    S2IX_NO_CELL = 3,         /* a number is no cell's, or no leaf's in a call that takes a leaf; or there is no such cell */
+    S2IX_NO_CELL = 3,         /* a number is no cell's, or no leaf's in a call that takes leaves; or there is no such cell */
     S2IX_NO_LABEL = 4,        /* a number is no label's */
     S2IX_NO_LIMITS = 5,       /* limits are out of their ranges */
     S2IX_NOTHING_TO_UNDO = 6,
@@ -101,7 +109,7 @@ enum s2ix_status {
     S2IX_TOO_MANY_COPIES = 23,
     S2IX_TOO_MANY_PAIRS = 24,
     S2IX_COARSER = 25,        /* the level is below the cell's */
-    S2IX_NO_SPAN = 26,        /* a bound is even, or not 1 <= start <= limit <= 0xc000000000000001 */
+    S2IX_NO_SPAN = 26,        /* a bound is even, or not 1 <= start <= limit <= 0xc000000000000001; or a target's fall, or pass the end */
     S2IX_NO_RANGE = 27,       /* no range is at the place; or none on the side that is asked for has a pair over it */
     S2IX_NO_JOURNAL = 28,     /* the text is no journal under the limits */
     S2IX_MISMATCH = 29,       /* a change has another count of a pair than is held */
@@ -238,6 +246,16 @@ uint32_t s2ix_clear(s2ix_handle *handle);
    pairs. S2IX_CLOSED, S2IX_NO_CELL, S2IX_NO_ROOM. */
 uint32_t s2ix_at(s2ix_handle *handle, uint64_t leaf, s2ix_row *rows, size_t room, size_t *number);
 
+/* The pairs over each of some leaves: those that s2ix_at puts for the first leaf, then those for the next, and so on. The leaves come in any
+   order, repeated or not; it is quickest if they rise. It does not allocate. O(log n + k) for each leaf under k pairs.
+   S2IX_CLOSED, S2IX_NO_CELL, S2IX_NO_ROOM. */
+uint32_t s2ix_at_each(s2ix_handle *handle, const uint64_t *leaves, size_t len, size_t *ends, size_t ends_room, s2ix_row *rows, size_t room,
+                      size_t *answered);
+
+/* The label of each of these pairs: one comes again if a leaf lies in several of its cells. It does not allocate. The same statuses. */
+uint32_t s2ix_labels_at_each(s2ix_handle *handle, const uint64_t *leaves, size_t len, size_t *ends, size_t ends_room, uint32_t *labels,
+                             size_t room, size_t *answered);
+
 /* The pairs that share a leaf with some of the cells, which come in any order, repeated or not. Each pair comes once, by first shared leaf,
    then falling level, then rising label. O(k + r + t log n) for k pairs over r ranges and t cells, and O(t log t) to sort them.
    S2IX_CLOSED, S2IX_NO_CELL, S2IX_NO_ROOM, S2IX_OUT_OF_MEMORY. */
@@ -252,6 +270,18 @@ uint32_t s2ix_meet_from(s2ix_handle *handle, const uint64_t *cells, size_t len, 
 /* The labels of the pairs that s2ix_meet puts: each once, rising. It costs what s2ix_meet does, and O(m log m) for m pairs. The same
    statuses. */
 uint32_t s2ix_labels(s2ix_handle *handle, const uint64_t *cells, size_t len, uint32_t *labels, size_t room, size_t *number);
+
+/* The pairs that meet each of some targets: those that s2ix_meet puts for the first target, then those for the next, and so on. Target k has
+   the cells from the place bounds[k] on, and before the place bounds[k + 1]; it may have none. So for m targets there are m + 1 bounds: `len`
+   is the number of bounds, and with one or none there is no target. Cells after the last bound belong to no target. If a target's bounds
+   fall, or pass the end of `cells`, the status is S2IX_NO_SPAN. Each target costs what s2ix_meet does. S2IX_CLOSED, S2IX_NO_SPAN,
+   S2IX_NO_CELL, S2IX_NO_ROOM, S2IX_OUT_OF_MEMORY. */
+uint32_t s2ix_meet_each(s2ix_handle *handle, const uint64_t *cells, size_t cell_count, const size_t *bounds, size_t len, size_t *ends,
+                        size_t ends_room, s2ix_row *rows, size_t room, size_t *answered);
+
+/* The same for labels: those that s2ix_labels puts for each target. */
+uint32_t s2ix_labels_each(s2ix_handle *handle, const uint64_t *cells, size_t cell_count, const size_t *bounds, size_t len, size_t *ends,
+                          size_t ends_room, uint32_t *labels, size_t room, size_t *answered);
 
 /* The region of a label: the normal union of its cells, rising. O(n + m log m) for m pairs of the label. S2IX_CLOSED, S2IX_NO_LABEL,
    S2IX_NO_ROOM, S2IX_OUT_OF_MEMORY. */

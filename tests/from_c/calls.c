@@ -7,12 +7,14 @@
 #include <string.h>
 
 /* How many calls answer other than they should: of cells and unions, in cells.c; of ranges, in ranges.c; of labels, differences and journals
-   from a change on, in lists.c; of steps by many rows or entries, in steps.c; of histories, in histories.c; and on several threads, in
-   threads.c. How many fields lie elsewhere, in layout.c; and how often something else is freed than should be, in freed.c. */
+   from a change on, in lists.c; of many leaves or targets at once, in each.c; of steps by many rows or entries, in steps.c; of histories, in
+   histories.c; and on several threads, in threads.c. How many fields lie elsewhere, in layout.c; and how often something else is freed than
+   should be, in freed.c. */
 int cell_faults(void);
 int range_faults(void);
 int history_faults(void);
 int list_faults(void);
+int each_faults(void);
 int step_faults(void);
 int thread_faults(void);
 int layout_faults(void);
@@ -596,7 +598,7 @@ static void exported(void) {
 }
 
 int main(void) {
-    faults = cell_faults() + range_faults() + list_faults() + step_faults() + history_faults();
+    faults = cell_faults() + range_faults() + list_faults() + each_faults() + step_faults() + history_faults();
     faults += thread_faults() + layout_faults() + freed_faults();
     refused_while_closed();
     untold_while_closed();

@@ -67,7 +67,8 @@ static const uint64_t cell = 0x0400000000000000, leaf = 0x0400000000000001;
 /* A pair with 5 copies of label 9, by each call that puts or takes rows, and changes of it. */
 static void rows_and_entries(void) {
     s2ix_handle handle = {0};
-    size_t number;
+    const size_t bounds[] = {0, 1};
+    size_t number, end;
     s2ix_row added = {0}, row = {0};
     s2ix_entry entry = {0};
     s2ix_held_label held = {0};
@@ -79,6 +80,12 @@ static void rows_and_entries(void) {
     EXPECT(bytes_at(&handle, sizeof(void *), 1), 1);
     EXPECT(s2ix_add_all(&handle, &added, 1, &number), S2IX_DONE);
     EXPECT(s2ix_at(&handle, leaf, &row, 1, &number), S2IX_DONE);
+    EXPECT_ROW(&row, cell, 9, 5);
+    memset(&row, 0, sizeof row);
+    EXPECT(s2ix_at_each(&handle, &leaf, 1, &end, 1, &row, 1, &number), S2IX_DONE);
+    EXPECT_ROW(&row, cell, 9, 5);
+    memset(&row, 0, sizeof row);
+    EXPECT(s2ix_meet_each(&handle, &cell, 1, bounds, 2, &end, 1, &row, 1, &number), S2IX_DONE);
     EXPECT_ROW(&row, cell, 9, 5);
     memset(&row, 0, sizeof row);
     EXPECT(s2ix_meet(&handle, &cell, 1, &row, 1, &number), S2IX_DONE);

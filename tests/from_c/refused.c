@@ -36,6 +36,10 @@ static const s2ix_entry wrong_entries[] = {{0x0400000000000000, 7, 1, 3}, {0x100
 static const s2ix_entry turned_entries[] = {{0x3000000000000000, 9, 0, 1}, {0x0400000000000000, 7, 1, 3}};
 static const s2ix_entry equal_entries[] = {{0x0400000000000000, 7, 1, 3}, {0x1000000000000000, 7, 1, 1}};
 static const uint64_t wrong_cells[] = {0x0c00000000000000, 0x0400000000000000, 0};
+/* Leaves, and three targets: two cells, none and a face. */
+static const uint64_t leaves[] = {0x0800000000000001, 0x3000000000000001, 0x0400000000000001};
+static const uint64_t targets[] = {0x0c00000000000000, 0x0400000000000000, 0x1000000000000000};
+static const size_t bounds[] = {0, 2, 2, 3};
 
 /* What a call told: its number, and what it put. */
 typedef struct told {
@@ -110,6 +114,30 @@ CALL(meets) { return (void)other, s2ix_meet(handle, two, 2, ROWS, &told->number)
 CALL(meets_from) { return (void)other, s2ix_meet_from(handle, two, 2, 1, ROWS, &told->number); }
 CALL(labels) { return (void)other, s2ix_labels(handle, &face, 1, LABELS, &told->number); }
 CALL(region) { return (void)other, s2ix_region(handle, 7, CELLS, &told->number); }
+
+/* What a call for many targets told, where it keeps them: an end for each target. */
+static size_t ends[3];
+
+/* A refused call for many targets has answered those before the first that wants memory, or none. What it told of these is looked at, and
+   then taken away, so that it counts as nothing told. */
+static uint32_t front(uint32_t status, told *told, const size_t *wanted) {
+    if (status == S2IX_OUT_OF_MEMORY) {
+        bool is_front = told->number < 3 && (told->number == 0 || told->number == 2);
+        for (size_t k = 0; k < told->number; k++) is_front &= ends[k] == wanted[k];
+        if (!is_front) return S2IX_NO_SPAN;
+        memset(told, 0, sizeof *told);
+    }
+    return status;
+}
+
+CALL(meets_each) {
+    static const size_t wanted[] = {3, 3, 6};
+    return (void)other, front(s2ix_meet_each(handle, targets, 3, bounds, 4, ends, 3, ROWS, &told->number), told, wanted);
+}
+CALL(labels_each) {
+    static const size_t wanted[] = {2, 2, 4};
+    return (void)other, front(s2ix_labels_each(handle, targets, 3, bounds, 4, ends, 3, LABELS, &told->number), told, wanted);
+}
 CALL(dumps) { return (void)other, s2ix_dump(handle, told->bytes, ROOM, &told->number); }
 CALL(journals) { return (void)other, s2ix_journal(handle, told->bytes, ROOM, &told->number); }
 CALL(journals_from) { return (void)other, s2ix_journal_from(handle, 2, told->bytes, ROOM, &told->number); }
@@ -187,6 +215,8 @@ CALL(compares_with_closed) {
 CALL(of_label) { return (void)other, s2ix_of_label(handle, 7, ROWS, &told->number); }
 CALL(contents) { return (void)other, s2ix_contents(handle, 1, 0, ROWS, &told->number); }
 CALL(at) { return (void)other, s2ix_at(handle, leaf, ROWS, &told->number); }
+CALL(at_each) { return (void)other, s2ix_at_each(handle, leaves, 3, ends, 3, ROWS, &told->number); }
+CALL(labels_at_each) { return (void)other, s2ix_labels_at_each(handle, leaves, 3, ends, 3, LABELS, &told->number); }
 CALL(pairs) { return (void)other, s2ix_pairs(handle, 0, ROWS, &told->number); }
 CALL(change) { return (void)other, s2ix_change(handle, 1, ENTRIES, &told->number); }
 CALL(range) {
@@ -210,11 +240,15 @@ CALL(applies_to_closed) {
 }
 /* Nothing is asked for: an empty list of cells, a label that isn't held, equal bounds, no room for a page. */
 CALL(asks_for_nothing) {
+    static const size_t none[] = {0, 0, 0};
     bool answer = true;
     uint32_t status = s2ix_meet(handle, two, 0, ROWS, &told->number);
     status += told->number + s2ix_meet_from(handle, two, 0, 0, ROWS, &told->number);
     status += told->number + s2ix_meet_from(handle, two, 2, 0, told->rows, 0, &told->number);
     status += told->number + s2ix_labels(handle, two, 0, LABELS, &told->number);
+    status += told->number + s2ix_meet_each(handle, two, 0, none, 3, ends, 2, ROWS, &told->number) + ends[1];
+    status += told->number - 2 + s2ix_labels_each(handle, two, 0, none, 3, ends, 2, LABELS, &told->number) + ends[1];
+    status += told->number - 2 + s2ix_meet_each(handle, two, 2, bounds, 1, ends, 0, ROWS, &told->number);
     status += told->number + s2ix_region(handle, 9, CELLS, &told->number);
     status += told->number + s2ix_of_label(handle, 9, ROWS, &told->number);
     status += told->number + s2ix_union_normalise(two, 0, CELLS, &told->number);
@@ -234,6 +268,10 @@ CALL(asks_for_no_cell) {
     is_told &= s2ix_meet_from(handle, wrong, 2, 0, ROWS, &told->number) == S2IX_NO_CELL && told->number == 1;
     is_told &= s2ix_meet_from(handle, wrong, 2, 0, told->rows, 0, &told->number) == S2IX_NO_CELL && told->number == 1;
     is_told &= s2ix_labels(handle, wrong, 2, LABELS, &told->number) == S2IX_NO_CELL && told->number == 1;
+    is_told &= s2ix_meet_each(handle, wrong, 2, bounds, 2, ends, 1, ROWS, &told->number) == S2IX_NO_CELL && told->number == 0;
+    is_told &= s2ix_labels_each(handle, wrong, 2, bounds, 2, ends, 0, LABELS, &told->number) == S2IX_NO_CELL && told->number == 0;
+    is_told &= s2ix_meet_each(handle, wrong, 1, bounds, 2, ends, 1, ROWS, &told->number) == S2IX_NO_SPAN && told->number == 0;
+    is_told &= s2ix_labels_each(handle, two, 2, bounds, 2, ends, 0, LABELS, &told->number) == S2IX_NO_ROOM && told->number == 0;
     is_told &= s2ix_union_normalise(wrong, 2, CELLS, &told->number) == S2IX_NO_CELL && told->number == 1;
     is_told &= s2ix_union_union(two, 2, wrong, 2, CELLS, &told->number) == S2IX_NO_CELL && told->number == 3;
     is_told &= s2ix_union_intersection(two, 0, wrong, 2, CELLS, &told->number) == S2IX_NO_CELL && told->number == 1;
@@ -279,6 +317,8 @@ static const struct {
     {"meet", meets, true},
     {"meet_from", meets_from, true},
     {"labels", labels, true},
+    {"meet_each", meets_each, true},
+    {"labels_each", labels_each, true},
     {"region", region, true},
     {"dump", dumps, true},
     {"journal", journals, true},
@@ -321,6 +361,8 @@ static const struct {
     {"nothing asked for", asks_for_nothing, false},
     {"no cell", asks_for_no_cell, false},
     {"at", at, false},
+    {"at_each", at_each, false},
+    {"labels_at_each", labels_at_each, false},
     {"pairs", pairs, false},
     {"change", change, false},
     {"journal from no change", journals_from_none, false},

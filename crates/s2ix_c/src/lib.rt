@@ -3,7 +3,7 @@
 //!
 //! An export carries out one call of a store, and its contract restates that call's. A refused call leaves the store as it was, and its
 //! status says why. A list goes to a buffer of the caller: the call tells how many items there are, also if the buffer is too short, and
-//! then it writes none of them.
+//! then it writes none of them. For many leaves or targets there are as many lists as the buffer has room for.
 #![tactic(auto)]
 
 mod cell_unions;
@@ -11,6 +11,7 @@ mod cells;
 mod changes;
 mod counts;
 mod difference;
+mod each;
 mod edits;
 mod handles;
 mod held_labels;

@@ -4,7 +4,8 @@ ghost use Rattle.std.specs.Prelude.{◌≡◌, ◌≢◌, [], length, take};
 ghost use Rattle.s2ix_bag_pairs.specs.Label.{label_numbered};
 ghost use Rattle.s2ix_c_calls.specs.Handle.{held_of};
 ghost use Rattle.s2ix_c.specs.Calls.{Through};
-ghost use Rattle.s2ix_c_calls.specs.Lists.{leaf_numbered, labels_met, ListsOf, Puts, PutsGathered, region_cells, rows_met, rows_met_from, rows_over};
+ghost use Rattle.s2ix_table_queries.specs.Leaf.{leaf_numbered};
+ghost use Rattle.s2ix_c_calls.specs.Lists.{labels_met, ListsOf, Puts, PutsGathered, region_cells, rows_met, rows_met_from, rows_over};
 ghost use Rattle.s2ix_c_calls.specs.Status.{closed, no_room, out_of_memory};
 
 use s2ix_c_calls::status::CLOSED;

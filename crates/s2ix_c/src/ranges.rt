@@ -4,7 +4,8 @@ ghost use Rattle.std.specs.Prelude.{◌≡◌, IsTrue};
 ghost use Rattle.s2ix_c_calls.specs.Handle.{held_of};
 ghost use Rattle.s2ix_table_walk.specs.RangeList.{range_table};
 ghost use Rattle.s2ix_c.specs.Calls.{Through};
-ghost use Rattle.s2ix_c_calls.specs.Lists.{leaf_numbered, Puts};
+ghost use Rattle.s2ix_table_queries.specs.Leaf.{leaf_numbered};
+ghost use Rattle.s2ix_c_calls.specs.Lists.{Puts};
 ghost use Rattle.s2ix_c_calls.specs.Ranges.{FindsFull, FindsFullBefore, FindsRange, ReadsRange, rows_of_range};
 ghost use Rattle.s2ix_c_calls.specs.Status.{closed};
 

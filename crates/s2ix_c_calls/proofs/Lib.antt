@@ -1,8 +1,8 @@
 mod AddressSteps
 mod Dropped
 mod Answered
-mod Numbers
 mod Paging
+mod Targets
 mod Begun
 mod Fresh
 mod StatusTexts

@@ -5,6 +5,7 @@ pub mod Status
 pub mod Stores
 pub mod Asked
 pub mod Lists
+pub mod Each
 pub mod Texts
 pub mod Ranges
 pub mod Changes

@@ -1,8 +1,7 @@
 -- Lists in buffers of the caller.
-use Rattle.std.specs.Prelude.{◌≡◌, ◌≢◌, ◌⊎◌, ℕ, ◌<◌, ◌==◌, if◌then◌else◌, Option, Some, None, Result, Ok, Err, List, [], length, map, take, drop}
+use Rattle.std.specs.Prelude.{◌≡◌, ◌≢◌, ◌⊎◌, ℕ, ◌<◌, Option, Some, None, Result, Ok, Err, List, [], length, map, take, drop}
 use Rattle.s2id_core.specs.declared.cell_id.CellId.{CellId}
-use Rattle.s2id_core.specs.CellId.{raw_of, level_of}
-use Rattle.s2id_core.specs.Spelled.{cell_numbered}
+use Rattle.s2id_core.specs.CellId.{raw_of}
 use Rattle.s2id_union.specs.NormalForm.{normal_form}
 use Rattle.s2ix_bag_pairs.specs.declared.label.Label.{Label}
 use Rattle.s2ix_bag_pairs.specs.declared.pair.Held.{Held}
@@ -22,6 +21,10 @@ use Rattle.s2ix_c_calls.specs.Status.{done, no_cell, no_label, no_room, out_of_m
 -- a held pair as C sees it
 abbrev pub row_of : Held → Row
 row_of h = record { cell = raw_of h.pair.cell; label = value_of h.pair.label; count = h.count }
+
+-- its label as C sees it
+abbrev pub label_of : Held → ℕ
+label_of h = value_of h.pair.label
 
 -- a list, put to the front of a buffer, which stays as it was past the list; if the buffer is too short, it is as it was, and the number says
 -- how long the list is
@@ -49,14 +52,6 @@ Lists (Err why) status number old new = IsRefused why status number old new
 abbrev pub PutsGathered : {A : Type 0} → Result (List A) ℕ → ℕ → ℕ → List A → List A → Type 0
 PutsGathered (Ok list) status number old new = IsPut list status number old new ⊎ ((list ≢ []) × IsRefused out_of_memory status number old new)
 PutsGathered (Err why) status number old new = IsRefused why status number old new
-
--- the leaf with this number, if it is a leaf's
-abbrev pub leaf_if : Option CellId → Option CellId
-leaf_if (Some cell) = if level_of cell == 30 then Some cell else None
-leaf_if None = None
-
-abbrev pub leaf_numbered : ℕ → Option CellId
-leaf_numbered n = leaf_if (cell_numbered n)
 
 -- the pairs over a leaf
 abbrev pub rows_over : Option CellId → State → Result (List Row) ℕ

@@ -23,7 +23,7 @@ status_text status =
     if status == 23 then codes "a count would pass the limit" else
     if status == 24 then codes "the number of pairs would pass the limit" else
     if status == 25 then codes "the level is coarser than the cell's" else
-    if status == 26 then codes "the bounds are no span of leaves" else
+    if status == 26 then codes "the bounds are no span" else
     if status == 27 then codes "no range is at the place" else
     if status == 28 then codes "the text is no journal" else
     if status == 29 then codes "a change has another count than is held" else

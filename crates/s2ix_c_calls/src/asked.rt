@@ -1,20 +1,12 @@
 //! What the numbers of a call ask for: cells, labels, pairs and edits, or the status of what is wrong.
 
 ghost use Rattle.std.specs.Prelude.{◌≡◌};
-ghost use Rattle.s2id_core.specs.Spelled.{cell_numbered};
 ghost use Rattle.s2ix_c_calls.specs.Asked.{asked_add, asked_drop, asked_grow, asked_normalise, asked_relabel, asked_remove, pair_numbered};
 
 use crate::status::{NO_CELL, NO_LABEL};
-use s2id_core::CellId;
 use s2ix_bag_pairs::{Label, Pair};
 use s2ix_edit_plan::Edit;
-
-// The cell of a number.
-pub(crate) fn cell_of(number: u64) -> Option<CellId>
-    ensures { result ≡ cell_numbered number }
-{
-    CellId::from_raw(number)
-}
+use s2ix_table_queries::cell_of;
 
 // The pair of two numbers.
 pub(crate) fn pair_of(cell: u64, label: u32) -> Result<Pair, u32>

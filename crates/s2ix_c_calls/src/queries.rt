@@ -1,36 +1,23 @@
 //! Queries of a store. None changes it.
 
-ghost use Rattle.std.specs.Prelude.{◌≡◌, ◌≢◌, ◌↔◌, [], Some, IsTrue, IfSome, drop, length, map, take};
-ghost use Rattle.s2id_core.specs.CellId.{level_of};
+ghost use Rattle.std.specs.Prelude.{◌≡◌, ◌≢◌, ◌↔◌, [], Some, IsTrue, drop, length, map, take};
 ghost use Rattle.s2ix_bag_pairs.specs.Label.{label_numbered};
 ghost use Rattle.s2ix_bag_pairs.specs.OfLabel.{held_of as held_with};
 ghost use Rattle.s2ix_table_walk.specs.Meeting.{meeting_of};
-ghost use Rattle.s2ix_c_calls.specs.Lists.{leaf_numbered, labels_met, IsPut, ListsOf, Puts, PutsGathered, region_cells, rows_met, rows_met_from, rows_over, row_of};
+ghost use Rattle.s2ix_table_queries.specs.Leaf.{leaf_numbered};
+ghost use Rattle.s2ix_c_calls.specs.Lists.{labels_met, IsPut, ListsOf, Puts, PutsGathered, region_cells, rows_met, rows_met_from, rows_over, row_of};
 ghost use Rattle.s2ix_c_calls.specs.Status.{done, no_room, out_of_memory};
 
-use crate::asked::cell_of;
 use crate::chains::put_contents;
 use crate::rows::{Row, put_cells, put_labels, put_rows, row_for};
 use crate::status::{DONE, NO_CELL, NO_LABEL, OUT_OF_MEMORY};
 use crate::unions::{check_cells, normal_of};
-use s2id_core::CellId;
 use s2id_union::CellUnion;
 use s2ix_bag_pairs::Label;
 use s2ix_edit::Store;
-use s2ix_table_queries::{Meter, RangeTable};
+use s2ix_table_queries::{Meter, RangeTable, leaf_of};
 use s2ix_table_walk::Meeting;
 use std::alloc::Global;
-
-// The leaf of a number.
-pub(crate) fn leaf_of(number: u64) -> Option<CellId>
-    ensures leaf { result ≡ leaf_numbered number }
-    ensures level { IfSome result (λ leaf. level_of leaf ≡ 30) }
-{
-    match cell_of(number) {
-        Some(cell) if cell.is_leaf() => Some(cell),
-        _ => None,
-    }
-}
 
 /// The pairs over a leaf, the innermost cell first, the labels of one cell rising. It does not allocate.
 pub fn at_store(store: &Store, leaf: u64, out: &mut [Row], number: &mut usize) -> u32

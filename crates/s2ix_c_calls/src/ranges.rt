@@ -4,16 +4,16 @@ ghost use Rattle.std.specs.Prelude.{◌≡◌, ◌≢◌, ◌<◌, ◌≤◌, �
 ghost use Rattle.s2id_core.specs.CellId.{level_of};
 ghost use Rattle.s2ix_table_walk.specs.RangeList.{range_table};
 ghost use Rattle.s2ix_table_walk.specs.Table.{range_at};
-ghost use Rattle.s2ix_c_calls.specs.Lists.{leaf_numbered, Puts};
+ghost use Rattle.s2ix_table_queries.specs.Leaf.{leaf_numbered};
+ghost use Rattle.s2ix_c_calls.specs.Lists.{Puts};
 ghost use Rattle.s2ix_c_calls.specs.Ranges.{FindsFull, FindsFullBefore, FindsRange, IsEmptyAt, IsRangeOf, ReadsRange, rows_of_range, GivesPlace};
 
 use crate::chains::put_begun;
-use crate::queries::leaf_of;
 use crate::rows::Row;
 use crate::status::{DONE, NO_CELL, NO_RANGE};
 use s2id_core::CellId;
 use s2ix_edit::{Store, StoreTable};
-use s2ix_table_queries::RangeTable;
+use s2ix_table_queries::{RangeTable, leaf_of};
 use s2ix_table_walk::RangeRow;
 use s2ix_table_walk::laws::range_table_is_the_collections;
 

@@ -10,6 +10,7 @@ use crate::asked::pair_of;
 use crate::status::{DONE, NO_ROOM};
 use s2id_core::{CellId, OutOfMemory};
 use s2ix_bag_pairs::{Held, Label};
+use s2ix_table_queries::OfHeld;
 use std::alloc::Global;
 
 /// A pair that a store holds, with its count.
@@ -22,6 +23,15 @@ pub struct Row {
     pub label: u32,
     /// How many copies are held.
     pub count: u32,
+}
+
+impl OfHeld for Row {
+    ghost of = { row_of };
+
+    #[inline]
+    fn of_held(held: Held) -> Row {
+        row_for(held)
+    }
 }
 
 // A held pair as a row.

@@ -45,7 +45,7 @@ pub const TOO_MANY_COPIES: u32 = 23;
 pub const TOO_MANY_PAIRS: u32 = 24;
 /// A level is coarser than the cell's.
 pub const COARSER: u32 = 25;
-/// The bounds are no span of leaves.
+/// The bounds are no span of leaves, or of a list.
 pub const NO_SPAN: u32 = 26;
 /// No range is at a place, or none that has a pair over it.
 pub const NO_RANGE: u32 = 27;
@@ -103,7 +103,7 @@ pub fn text_of(status: u32) -> &'static str
         23 => "a count would pass the limit",
         24 => "the number of pairs would pass the limit",
         25 => "the level is coarser than the cell's",
-        26 => "the bounds are no span of leaves",
+        26 => "the bounds are no span",
         27 => "no range is at the place",
         28 => "the text is no journal",
         29 => "a change has another count than is held",
