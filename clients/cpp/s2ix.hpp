@@ -17,6 +17,7 @@
 
 #include "s2ix_cell_index.hpp"
 #include "s2ix_cells.hpp"
+#include "s2ix_each.hpp"
 #include "s2ix_index.hpp"
 
 #endif

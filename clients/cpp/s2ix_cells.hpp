@@ -74,13 +74,13 @@ class Error : public std::runtime_error {
   [[nodiscard]] std::size_t change() const noexcept { return where_.change; }
   [[nodiscard]] std::size_t entry() const noexcept { return where_.entry; }
 
-  // The number that is no cell's or no leaf's, for S2IX_NO_CELL, or no label's, for S2IX_NO_LABEL. None if no number is wrong by itself, as
-  // when a cell has no parent of a level.
+  // The number that is no cell's or no leaf's, for S2IX_NO_CELL, or no label's, for S2IX_NO_LABEL; the bound of a target, for S2IX_NO_SPAN.
+  // None if no number is wrong by itself, as when a cell has no parent of a level.
   [[nodiscard]] std::optional<std::uint64_t> value() const noexcept { return where_.value; }
 
   // The place of that number among the cells, rows or entries of the call, counted from 0; if several are wrong, the place of the first. If a
-  // call takes two lists, the places count on through the second. remove_all and record tell it for other statuses too. None if no item of a
-  // list is refused.
+  // call takes two lists, the places count on through the second. remove_all and record tell it for other statuses too; meet_each and
+  // labels_each tell the place of the target. None if no item of a list is refused.
   [[nodiscard]] std::optional<std::size_t> place() const noexcept { return where_.place; }
 
  private:

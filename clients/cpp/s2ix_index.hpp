@@ -3,6 +3,7 @@
 #define S2IX_INDEX_HPP
 
 #include "s2ix_cells.hpp"
+#include "s2ix_each.hpp"
 
 #include <algorithm>
 #include <atomic>
@@ -396,6 +397,50 @@ class Index {
     return found;
   }
 
+  // Many leaves or targets at once: what at, meet and labels give for each, one after the other. No other call on the index comes between.
+  // The library is asked once if the list held as many items, or if there are at most two for each; else mostly twice. If a leaf or a target
+  // is refused, so are all, and both lists are empty.
+
+  // The pairs over each of some leaves, which come in any order, repeated or not; it is quickest if they rise. O(m log n + k) for m leaves and
+  // k pairs. S2IX_CLOSED; S2IX_NO_CELL, with the place of the first number that is no leaf's.
+  void at_each(const detail::Given& leaves, RowsOfEach& found) const { over_each(s2ix_at_each, leaves, found.ends, found.rows); }
+  [[nodiscard]] RowsOfEach at_each(const detail::Given& leaves) const {
+    RowsOfEach found;
+    at_each(leaves, found);
+    detail::trim(found.rows);
+    return found;
+  }
+
+  // Their labels alone: a label is repeated if a leaf lies in several cells of it.
+  void labels_at_each(const detail::Given& leaves, LabelsOfEach& found) const {
+    over_each(s2ix_labels_at_each, leaves, found.ends, found.labels);
+  }
+  [[nodiscard]] LabelsOfEach labels_at_each(const detail::Given& leaves) const {
+    LabelsOfEach found;
+    labels_at_each(leaves, found);
+    detail::trim(found.labels);
+    return found;
+  }
+
+  // The pairs that meet each of some targets. It costs what meet does for each. S2IX_CLOSED; with the place of the first target that is
+  // refused, S2IX_NO_CELL, and S2IX_NO_SPAN if its bound is below the one before, or above the number of cells.
+  void meet_each(const Targets& targets, RowsOfEach& found) const { met_by_each(s2ix_meet_each, targets, found.ends, found.rows); }
+  [[nodiscard]] RowsOfEach meet_each(const Targets& targets) const {
+    RowsOfEach found;
+    meet_each(targets, found);
+    detail::trim(found.rows);
+    return found;
+  }
+
+  // Their labels: for each target each once, rising.
+  void labels_each(const Targets& targets, LabelsOfEach& found) const { met_by_each(s2ix_labels_each, targets, found.ends, found.labels); }
+  [[nodiscard]] LabelsOfEach labels_each(const Targets& targets) const {
+    LabelsOfEach found;
+    labels_each(targets, found);
+    detail::trim(found.labels);
+    return found;
+  }
+
   // The region of a label: the normal union of its cells, rising. O(n + m log m) for m pairs of the label. S2IX_CLOSED, S2IX_NO_LABEL.
   void region(std::uint32_t label, std::vector<std::uint64_t>& cells) const {
     list_of(label, cells, s2ix_region);
@@ -686,6 +731,22 @@ class Index {
           items, [&](auto* to, std::size_t room, std::size_t* number) { return call(handle, label, to, room, number); }, pairs / 16);
     });
     detail::check(status, [&](std::uint32_t why) { return detail::wrong_label(why, {label}); });
+  }
+
+  // Puts what a call finds for many leaves, or for many targets, in place of what the lists held.
+  template <class Item, class Call>
+  void over_each(Call call, const Cells& leaves, std::vector<std::size_t>& ends, std::vector<Item>& items) const {
+    std::size_t place = 0;
+    const std::uint32_t status =
+        handle_.with([&](::s2ix_handle* handle) { return detail::fill_over<Item>(handle, call, leaves, ends, items, place); });
+    detail::check(status, [&](std::uint32_t why) { return detail::wrong_at(why, leaves, place); });
+  }
+  template <class Item, class Call>
+  void met_by_each(Call call, const Targets& targets, std::vector<std::size_t>& ends, std::vector<Item>& items) const {
+    std::size_t place = 0;
+    const std::uint32_t status =
+        handle_.with([&](::s2ix_handle* handle) { return detail::fill_met<Item>(handle, call, targets, ends, items, place); });
+    detail::check(status, [&](std::uint32_t why) { return detail::wrong_target(why, targets, place); });
   }
 
   // The pairs that a call puts from a place on: at most `most`, and at most as many as are held after the place.

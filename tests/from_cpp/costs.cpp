@@ -52,6 +52,18 @@ COUNTED(s2ix_meet_from, (Handle handle, Given cells, Size len, Size from, Rows r
         (handle, cells, len, from, rows, room, number))
 COUNTED(s2ix_labels, (Handle handle, Given cells, Size len, std::uint32_t* labels, Size room, Number number),
         (handle, cells, len, labels, room, number))
+COUNTED(s2ix_at_each, (Handle handle, Given leaves, Size len, Number ends, Size ends_room, Rows rows, Size room, Number answered),
+        (handle, leaves, len, ends, ends_room, rows, room, answered))
+COUNTED(s2ix_labels_at_each,
+        (Handle handle, Given leaves, Size len, Number ends, Size ends_room, std::uint32_t* labels, Size room, Number answered),
+        (handle, leaves, len, ends, ends_room, labels, room, answered))
+COUNTED(s2ix_meet_each,
+        (Handle handle, Given cells, Size cell_count, const Size* bounds, Size len, Number ends, Size ends_room, Rows rows, Size room, Number answered),
+        (handle, cells, cell_count, bounds, len, ends, ends_room, rows, room, answered))
+COUNTED(s2ix_labels_each,
+        (Handle handle, Given cells, Size cell_count, const Size* bounds, Size len, Number ends, Size ends_room, std::uint32_t* labels, Size room,
+         Number answered),
+        (handle, cells, cell_count, bounds, len, ends, ends_room, labels, room, answered))
 COUNTED(s2ix_region, (Handle handle, std::uint32_t label, std::uint64_t* cells, Size room, Number number), (handle, label, cells, room, number))
 COUNTED(s2ix_of_label, (Handle handle, std::uint32_t label, Rows rows, Size room, Number number), (handle, label, rows, room, number))
 COUNTED(s2ix_pairs, (Handle handle, Size from, Rows rows, Size room, Number number), (handle, from, rows, room, number))
@@ -174,12 +186,40 @@ void AsksOnceForWhatIsKnown() {
   EXPECT(CostOf([&] { index.meet({target[0], kLeaf}, rows); }).taken == 0 && rows.size() == 42);
 }
 
+// Many leaves or targets are asked for at once: by one call if the lists held as many items, or if there are at most two for each. Neither
+// leaves nor cells in one row are copied.
+void AsksOnceForEach() {
+  const s2ix::Index index = Zones();
+  const std::vector<std::uint64_t> leaves(1000, kLeaf), others(100, 0x0c00000000000001), cells(1000, kFirst);
+  std::vector<std::size_t> bounds;
+  for (std::size_t k = 0; k <= 1000; k++) bounds.push_back(k);
+  const s2ix::Targets targets(cells.data(), cells.size(), bounds.data(), bounds.size());
+  s2ix::RowsOfEach rows;
+  s2ix::LabelsOfEach labels;
+  Cost cost = CostOf([&] { rows = index.at_each(leaves); });
+  EXPECT(cost.asked == 1 && cost.taken == 1000 * sizeof(std::size_t) + 2000 * sizeof(s2ix::Row) && rows.rows.size() == 2000);
+  cost = CostOf([&] { labels = index.labels_at_each(leaves); });
+  EXPECT(cost.asked == 1 && cost.taken == 1000 * sizeof(std::size_t) + 2000 * sizeof(std::uint32_t) && labels.labels.size() == 2000);
+  cost = CostOf([&] { index.meet_each(targets, rows); });
+  EXPECT(cost.asked == 1 && cost.taken == 0 && rows.rows.size() == 2000);
+  cost = CostOf([&] { index.labels_each(targets, labels); });
+  EXPECT(cost.asked == 1 && cost.taken == 0 && labels.labels.size() == 2000);
+  cost = CostOf([&] { index.at_each(others, rows); });
+  EXPECT(cost.asked == 2 && rows.rows.size() == 4000);
+  cost = CostOf([&] { index.at_each(others, rows); });
+  EXPECT(cost.asked == 1 && cost.taken == 0 && rows.rows.size() == 4000);
+  EXPECT(CostOf([&] { EXPECT(index.at_each(others).rows.capacity() <= 8000); }).asked == 2);
+  rows.rows.reserve(std::size_t{1} << 22);
+  EXPECT(PagesOf([&] { index.at_each({kLeaf}, rows); }) < 64 && rows.rows.size() == 2);
+}
+
 }  // namespace
 
 int main() {
   LeavesRoomUntouched();
   AsksOnce();
   AsksOnceForWhatIsKnown();
+  AsksOnceForEach();
   std::cout << passed << " passed, " << failed << " failed\n";
   return failed == 0 ? 0 : 1;
 }

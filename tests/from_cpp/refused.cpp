@@ -51,6 +51,8 @@ std::string TextOf(const std::vector<Item>& items) {
   for (const Item& item : items) text += TextOf(item) + "\n";
   return text;
 }
+std::string TextOf(const s2ix::RowsOfEach& found) { return TextOf(found.ends) + TextOf(found.rows); }
+std::string TextOf(const s2ix::LabelsOfEach& found) { return TextOf(found.ends) + TextOf(found.labels); }
 
 // A call, whose answer becomes a text when no growth is refused any more.
 struct Call {
@@ -100,6 +102,10 @@ const Call kCalls[] = {
     {"meet_from", [](s2ix::Index& index) { return index.meet_from({kFace, kSecond}, 1, 2); }},
     {"contents", [](s2ix::Index& index) { return index.contents(1); }},
     {"labels", [](s2ix::Index& index) { return index.labels({kFace, kSecond}); }},
+    {"at_each", [](s2ix::Index& index) { return index.at_each(std::vector<std::uint64_t>(70, kLeaf)); }},
+    {"labels_at_each", [](s2ix::Index& index) { return index.labels_at_each(std::vector<std::uint64_t>(70, kLeaf)); }},
+    {"meet_each", [](s2ix::Index& index) { return index.meet_each({{kFace, kSecond}, {kFirst}, {kFace}, {kFace}, {kFace}, {kFace}}); }},
+    {"labels_each", [](s2ix::Index& index) { return index.labels_each({{kFace, kSecond}, {kFirst}, {}, {kFace}}); }},
     {"region", [](s2ix::Index& index) { return index.region(7); }},
     {"change", [](s2ix::Index& index) { return index.change(1); }},
     {"dump", [](s2ix::Index& index) { return index.dump(); }},

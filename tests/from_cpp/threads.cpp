@@ -45,6 +45,8 @@ int WrongQueries(const s2ix::Index& index) {
       index.at(kSecond + 1, rows);
       wrong += !IsPair(rows, kSecond, 2);
       wrong += index.labels({kSecond}) != std::vector<std::uint32_t>{2, 3};
+      wrong += index.labels_at_each({kFirst + 1, kSecond + 1}).labels != std::vector<std::uint32_t>{1, 3, 2, 3};
+      wrong += index.meet_each({{kFirst, kSecond}, {kSecond}}).ends != std::vector<std::size_t>{3, 5};
       wrong += index.meet({kFace}).size() != 3 || index.of_label(2).size() != 1 || index.held_labels().size() < 3;
       wrong += index.count(kFirst, 1) != 1 || !index.is_open() || index.find(kSecond + 1).limit != 0x1000000000000001;
     } catch (const std::exception&) {
