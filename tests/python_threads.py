@@ -95,6 +95,9 @@ class Zones:
         if (place + step) % 16 == 0:
             yield "many rows", [row.label for row in index.at(cells.range_min(FACES[5]))], list(range(MANY))
             yield "many labels", index.labels(FACES[5]), list(range(MANY))
+            found = index.labels_at_each([leaf, cells.range_min(other.cell)]), index.labels_each([[zone.cell, other.cell], zone.cell], 2)
+            wanted = [1, 2], [zone.label, other.label], [2, 3], sorted([zone.label, other.label]) + [zone.label]
+            yield "many at once", tuple(part.tolist() for each in found for part in each), wanted
             yield "of_label", index.of_label(zone.label), [zone, Row(FACES[5], zone.label, 1)]
             yield "held_labels", {each.label: each[1:] for each in index.held_labels()}[zone.label], (2, zone.count + 1)
             yield "region", index.region(zone.label), [zone.cell, FACES[5]]

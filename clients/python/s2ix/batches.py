@@ -1,45 +1,207 @@
-"""What `at` finds for many leaves at once: after each leaf how many answers there are so far, and all answers one after the other."""
+"""Answers many leaves or targets by one call: how many answers there are up to each, and all answers in one list."""
 from __future__ import annotations
 
 import ctypes
 import functools
 import importlib
 import operator
+import threading
 from array import array
 from concurrent.futures import ThreadPoolExecutor
-from contextlib import ExitStack
 from ctypes import addressof
-from typing import TYPE_CHECKING, Any, Callable
+from itertools import accumulate
+from typing import TYPE_CHECKING, Any, Callable, Iterable, NamedTuple, Optional, Protocol
 
-from s2ix.given import Cells, cells_copied
-from s2ix.refusals import NoCell, NoRoom, expect, placed
-from s2ix.rows import PACKED, WORD, view_of
+from s2ix import library
+from s2ix.given import MOST_U64, NO_WORD, Bounds, Cells, Targets, cells_copied, expect_plain, wrong_cell
+from s2ix.refusals import REFUSALS, NoCell, NoRoom, NoSpan, S2ixError, named, placed
+from s2ix.rows import HALF, PACKED, WORD
 from s2ix.tokens import no_cell
 
 if TYPE_CHECKING:
     from s2ix.index import Index
 
-# How many rows are read at a time, and for how many rows of one leaf there is room at first.
-_ROOM, _SPARE = 4096, 256
+# The first call has room for so many answers a leaf or target,
+_EACH = 4
+# and each call for at least and at most so many.
+_LEAST, _MOST = 256, 1 << 22
+# A call is given at most so many leaves or targets, so that an interrupt waits some tenths of a second.
+_STEP = 1 << 20
+# Of memory of more bytes than this, what NumPy didn't write to is not taken from the system.
+_FREE = 1 << 25
+
+
+class _Asked(Protocol):
+    """Leaves or targets, one after the other."""
+
+    #: How many are worth a thread.
+    share: int
+
+    def __len__(self) -> int: ...
+
+    def given(self, start: int, stop: int) -> tuple[int, ...]:
+        """What a call takes of those from one place up to another."""
+
+    def refusal(self, status: int, place: int) -> S2ixError:
+        """Why the one at a place is refused."""
+
+
+class _Kind(NamedTuple):
+    """What is asked for: how many bytes an answer has, its dtype in NumPy, and what makes the whole of parts without NumPy."""
+
+    size: int
+    dtype: Any
+    whole: Callable[[list[memoryview]], Any]
 
 
 def rows_of_each(index: Index, leaves: Cells, threads: int) -> tuple[Any, Any]:
     """The rows over each leaf, packed as those of `meet_view`."""
-    ends, found = _asked(index, leaves, threads, memoryview.tobytes)
-    numpy, rows = _numpy(), view_of(memoryview(found))
-    return (ends, rows) if numpy is None else (numpy.asarray(ends), numpy.asarray(rows))
+    return _Batch("s2ix_at_each", _Leaves(words_in(leaves, "leaves")), _ROWS).found(index, threads)
 
 
 def labels_of_each(index: Index, leaves: Cells, threads: int) -> tuple[Any, Any]:
     """The labels over each leaf."""
-    ends, found = _asked(index, leaves, threads, _labels_in)
-    numpy, labels = _numpy(), array("I")
-    labels.frombytes(found)
-    return (ends, labels) if numpy is None else (numpy.asarray(ends), numpy.asarray(labels))
+    return _Batch("s2ix_labels_at_each", _Leaves(words_in(leaves, "leaves")), _LABELS).found(index, threads)
 
 
-def _labels_in(rows: memoryview) -> bytes:
-    return rows.cast("I")[2::4].tobytes()
+def rows_met_by_each(index: Index, targets: Targets, threads: int, bounds: Optional[Bounds]) -> tuple[Any, Any]:
+    """The rows that meet each target."""
+    return _Batch("s2ix_meet_each", _targets_in(targets, bounds), _ROWS).found(index, threads)
+
+
+def labels_met_by_each(index: Index, targets: Targets, threads: int, bounds: Optional[Bounds]) -> tuple[Any, Any]:
+    """The labels that meet each target."""
+    return _Batch("s2ix_labels_each", _targets_in(targets, bounds), _LABELS).found(index, threads)
+
+
+# What is given.
+
+
+def words_in(given: Any, kind: str) -> memoryview:
+    """Cells of some kind as 64-bit numbers without sign: as they lie, if they lie in one row."""
+    view = _memory_of(given, kind)
+    if view is None or view.ndim == 0 and view.format != "?":
+        return memoryview(cells_copied(given))
+    return _words_of(view, kind)
+
+
+def _memory_of(given: Any, kind: str) -> Optional[memoryview]:
+    """The memory of an array, if it has some."""
+    expect_plain(given, kind)
+    # (a column of pandas has no memory to look at, but the array that it gives has some; a nullable one gives objects, if not asked)
+    dtype = getattr(getattr(given, "dtype", None), "numpy_dtype", None)
+    try:
+        return memoryview(given if not hasattr(given, "__array__") else given.__array__() if dtype is None else given.__array__(dtype))
+    except ValueError:
+        if dtype is not None:
+            raise TypeError(f"{kind} have no missing values: drop them, or use frames.join") from None
+        raise TypeError(f"{kind} are 64-bit integers, not {getattr(given, 'dtype', type(given).__name__)}") from None
+    except TypeError:
+        return None
+
+
+def _words_of(view: memoryview, kind: str) -> memoryview:
+    """Memory as 64-bit numbers without sign. It is copied only if the numbers lie apart, or where the library can't read them."""
+    if view.ndim == 1 and not len(view):
+        return memoryview(array("Q"))
+    if view.itemsize != WORD or view.format.lstrip("@=<") not in ("Q", "L", "q", "l"):
+        raise TypeError(f"{kind} are 64-bit integers, not {getattr(view.obj, 'dtype', view.format)}")
+    if view.ndim != 1:
+        raise TypeError(f"{kind} lie in one row, not in an array of {view.ndim} dimensions")
+    if view.c_contiguous:
+        words = view.cast("B").cast("Q")
+        if (not view.readonly or _numpy() is not None) and _address_of(words) % WORD == 0:
+            return words
+    return memoryview(array("Q", view.tobytes()))
+
+
+def _address_of(memory: memoryview) -> int:
+    """Where memory lies. Of what can't be written, only NumPy tells it."""
+    if not len(memory):
+        return addressof(NO_WORD)
+    if memory.readonly:
+        address: int = _numpy().asarray(memory).ctypes.data
+        return address
+    return addressof(ctypes.c_char.from_buffer(memory))
+
+
+class _Leaves:
+    """Leaves, each to be asked for by itself."""
+
+    share = 4096
+
+    def __init__(self, words: memoryview) -> None:
+        self._words, self._start = words, _address_of(words)
+
+    def __len__(self) -> int:
+        return len(self._words)
+
+    def given(self, start: int, stop: int) -> tuple[int, ...]:
+        return self._start + WORD * start, stop - start
+
+    def refusal(self, status: int, place: int) -> S2ixError:
+        if status == NoCell.status:
+            return placed(no_cell(self._words[place], "leaf"), "place", place)
+        return REFUSALS.get(status, S2ixError)()
+
+
+class _Targets:
+    """Targets, each a union of cells: all their cells one after the other, and from one bound up to the next those of each."""
+
+    share = 64
+
+    def __init__(self, cells: memoryview, bounds: memoryview) -> None:
+        self._cells, self._start = cells, _address_of(cells)
+        self._bounds, self._first = bounds, _address_of(bounds)
+
+    def __len__(self) -> int:
+        return max(len(self._bounds) - 1, 0)
+
+    def given(self, start: int, stop: int) -> tuple[int, ...]:
+        return self._start, len(self._cells), self._first + WORD * start, stop - start + 1
+
+    def refusal(self, status: int, place: int) -> S2ixError:
+        start, end = self._bounds[place : place + 2]
+        if status == NoSpan.status:
+            words = f"its cells end at {end}, which is not from {start} to {len(self._cells)}"
+            return placed(named(NoSpan, words, end), "target", place)
+        if status == NoCell.status:
+            return placed(wrong_cell((self._start + WORD * start, end - start)), "target", place)
+        return REFUSALS.get(status, S2ixError)()
+
+
+def _targets_in(targets: Any, bounds: Any) -> _Targets:
+    """Targets as they lie, if bounds tell where the cells of each lie, or each cell is one; else copied into one row."""
+    if bounds is not None:
+        return _Targets(words_in(targets, "cells"), _bounds_in(bounds))
+    if isinstance(targets, (int, str, bytes, bytearray)):
+        raise TypeError(f"targets are a list of cells or of unions, not {type(targets).__name__}")
+    view = _memory_of(targets, "cells")
+    # (an array of several rows has a target in each)
+    if view is not None and view.format != "O" and (view.ndim < 2 or not hasattr(targets, "__array__")):
+        words, numpy = _words_of(view, "cells"), _numpy()
+        bounds = array("Q", range(len(words) + 1)) if numpy is None else numpy.arange(len(words) + 1, dtype=numpy.uint64)
+        return _Targets(words, memoryview(bounds))
+    cells, bounds = array("Q"), array("Q", [0])
+    for place, target in enumerate(targets):
+        try:
+            cells.frombytes(words_in(target, "cells").cast("B"))
+        except NoCell as refusal:
+            raise placed(refusal, "target", place) from None
+        bounds.append(len(cells))
+    return _Targets(memoryview(cells), memoryview(bounds))
+
+
+def _bounds_in(bounds: Any) -> memoryview:
+    view = _memory_of(bounds, "bounds")
+    if view is not None and view.format != "O":
+        return _words_of(view, "bounds")
+    # (a number that no memory holds is above all cells, as one below 0 is)
+    numbers = map(operator.index, bounds)
+    return memoryview(array("Q", [bound if 0 <= bound <= MOST_U64 else MOST_U64 for bound in numbers]))
+
+
+# What is found.
 
 
 @functools.lru_cache(maxsize=None)
@@ -51,97 +213,135 @@ def _numpy() -> Any:
         return None
 
 
-def words_in(leaves: Cells) -> memoryview:
-    """Leaves as 64-bit numbers without sign: as they lie, if they lie in one row."""
-    given: Any = leaves
-    if hasattr(given, "filled"):
-        raise TypeError("leaves are in a plain array, not in a masked one")
-    try:
-        # (a column of pandas has no memory to look at, but the array that it gives has some; a nullable one gives objects, if not asked)
-        dtype = getattr(getattr(given, "dtype", None), "numpy_dtype", None)
-        view = memoryview(given if not hasattr(given, "__array__") else given.__array__() if dtype is None else given.__array__(dtype))
-    except ValueError:
-        raise TypeError(f"leaves are 64-bit integers, not what this {type(leaves).__name__} has") from None
-    except TypeError:
-        return memoryview(cells_copied(leaves))
-    if view.ndim == 0 and view.format != "?":
-        return memoryview(cells_copied(leaves))
-    if view.ndim != 1 or view.itemsize not in (WORD, 0) or view.format.lstrip("@=<") not in ("Q", "L", "q", "l"):
-        raise TypeError(f"leaves are 64-bit integers in one row, not memory of {view.format!r}")
-    if not len(view):
-        return memoryview(array("Q"))
-    return (view if view.c_contiguous else memoryview(view.tobytes())).cast("B").cast("Q")
+class _Batch:
+    """What is asked by a call of the library, and what is found: how many answers there are after each leaf or target, and all answers."""
+
+    def __init__(self, call: str, asked: _Asked, kind: _Kind) -> None:
+        self._call, self._asked, self._kind = call, asked, kind
+        numpy, self._many = _numpy(), len(asked)
+        self._ends: Any = array("q", bytes(WORD * self._many)) if numpy is None else numpy.zeros(self._many, numpy.int64)
+        self._is_over = threading.Event()
+
+    def found(self, index: Index, threads: int) -> tuple[Any, Any]:
+        """All are cut among at most so many threads, which see the index as it is now: each asks a copy of its own."""
+        threads = operator.index(threads)
+        if threads < 1:
+            raise ValueError(f"threads below 1: {threads}")
+        step = max(-(-self._many // threads), self._asked.share)
+        spans = [(start, min(start + step, self._many)) for start in range(0, self._many, step)] or [(0, 0)]
+        still = index.copy()
+        copies = [still, *(still.copy() for _ in spans[1:])]
+        if len(spans) == 1:
+            return self._joined(spans, [self._part(still, *spans[0])], map)
+        with ThreadPoolExecutor(len(spans)) as pool:
+            try:
+                jobs = [pool.submit(self._part, copy, *span) for copy, span in zip(copies, spans)]
+                # (the first that is refused decides, and those after it are left)
+                return self._joined(spans, [job.result() for job in jobs], pool.map)
+            except BaseException as raised:
+                self._is_over.set()
+                # (an interrupt in the midst of a wait may leave Python's own Condition as a RuntimeError)
+                if isinstance(raised, RuntimeError) and isinstance(raised.__context__, KeyboardInterrupt):
+                    raise raised.__context__ from None
+                raise
+
+    def _part(self, index: Index, start: int, stop: int) -> list[memoryview]:
+        """What is found for those from one place up to another, in parts. Their ends are counted from `start` on.
+
+        The index is a copy that no other thread uses, and this one closes it: an interrupt may end the other threads' work first."""
+        parts, before, place, room = [], 0, start, _room_of(_EACH * (stop - start))
+        with index:
+            while place < stop and not self._is_over.is_set():
+                ends = memoryview(self._ends)[place : min(stop, place + _STEP)]
+                items = _memory(room * self._kind.size)
+                many = self._ask(index, place, ends, items)
+                used = ends[many - 1] if many else 0
+                parts.append(items[: used * self._kind.size])
+                _add(ends[:many], before)
+                before, place = before + used, place + many
+                # (an eighth more than as many each as there are so far)
+                wanted = (stop - place) * before * 9 // (8 * max(place - start, 1))
+                if not many:
+                    # (the next one alone has more than there was room for)
+                    wanted = 4 * room
+                elif many < len(ends):
+                    wanted = max(wanted, 2 * room)
+                room = _room_of(wanted)
+        return parts
+
+    def _joined(self, spans: list[tuple[int, int]], found: list[list[memoryview]], run: Callable[..., Iterable[None]]) -> tuple[Any, Any]:
+        """The answers of some spans as those of the whole. What is copied or counted anew is so by as many threads."""
+        starts = [0, *accumulate(sum(map(len, parts)) for parts in found)]
+        numpy, parts = _numpy(), [part for parts in found for part in parts]
+        whole = None if numpy is None or _is_whole(parts) else numpy.empty(starts[-1], "u1")
+
+        def put(span: tuple[int, int], start: int, parts: list[memoryview]) -> None:
+            _add(memoryview(self._ends)[slice(*span)], start // self._kind.size)
+            if whole is not None:
+                for part in parts:
+                    whole[start : start + len(part)] = numpy.asarray(part)
+                    start += len(part)
+
+        for _ in run(put, spans, starts, found):
+            pass
+        if numpy is None:
+            return self._ends, self._kind.whole(parts)
+        if whole is None:
+            whole = numpy.asarray(parts[0])
+        return self._ends, whole.view(self._kind.dtype)
+
+    def _ask(self, index: Index, place: int, ends: memoryview, items: memoryview) -> int:
+        """Makes one call, from a place on, that puts its answers into memory; returns for how many leaves or targets."""
+        answered, call = ctypes.c_size_t(), getattr(library.load_unlocked(), self._call)
+        given = self._asked.given(place, place + len(ends))
+        rooms = _address_of(ends), len(ends), _address_of(items), len(items) // self._kind.size
+        status = call(index._at_handle, *given, *rooms, addressof(answered))
+        if status not in (0, NoRoom.status):
+            raise self._asked.refusal(status, place + answered.value)
+        return answered.value
 
 
-def _asked(index: Index, leaves: Cells, threads: int, read: Callable[[memoryview], bytes]) -> tuple[array[int], bytearray]:
-    """How many rows there are after each leaf, and what is read of them. The leaves are cut among threads, which all see the index as it is
-    now: each asks a copy of its own."""
-    words, threads = words_in(leaves), operator.index(threads)
-    if threads < 1:
-        raise ValueError(f"threads below 1: {threads}")
-    ends, step = array("q", bytes(WORD * len(words))), max(-(-len(words) // threads), 1)
-    starts, room = range(0, len(words), step), memoryview(ends)
-    with ExitStack() as stack:
-        still = stack.enter_context(index.copy())
-        if len(starts) < 2:
-            found = _found(still, words, 0, room, read)
-        else:
-            parts = [(words[start : start + step], start, room[start : start + step]) for start in starts]
-            # (each call of s2ix_at keeps Python's lock, so they take turns)
-            copies = [stack.enter_context(still.copy()) for _ in parts]
-            with ThreadPoolExecutor(len(parts)) as pool:
-                asked = [pool.submit(_found, copy, *part, read) for copy, part in zip(copies, parts)]
-            found = _joined(room, step, [each.result() for each in asked])
-    return ends, found
+def _room_of(wanted: int) -> int:
+    return min(max(wanted, _LEAST), _MOST)
 
 
-def _joined(ends: memoryview, step: int, parts: list[bytearray]) -> bytearray:
-    """What parts of so many leaves found, one after the other. Their ends, which begin anew in each part, become those of the whole."""
-    numpy, found, before = _numpy(), bytearray(), 0
-    for start, part in zip(range(0, len(ends), step), parts):
-        room = ends[start : start + step]
-        if numpy is not None:
-            numpy.asarray(room)[:] += before
-        elif before:
-            room[:] = array("q", (end + before for end in room))
-        found += part
-        before = room[-1]
-    return found
+def _add(ends: memoryview, before: int) -> None:
+    """Adds to each of some ends."""
+    numpy = _numpy()
+    if not before:
+        return
+    if numpy is not None:
+        numpy.asarray(ends)[:] += before
+    else:
+        ends[:] = array("q", [end + before for end in ends])
 
 
-def _found(index: Index, leaves: memoryview, place: int, ends: memoryview, read: Callable[[memoryview], bytes]) -> bytearray:
-    """What is read of the rows over leaves, of which the first has the place. The number of rows after each leaf goes to `ends`."""
-    found, before, filled, no_room = bytearray(), 0, 0, NoRoom.status
-    words, rows, start, at_next, ask, asked = _room(index, _SPARE)
-    for number, leaf in enumerate(leaves):
-        words[1] = leaf
-        at_next.value = start + filled * PACKED
-        status = ask(*asked)
-        if status == no_room:
-            found += read(rows[: filled * PACKED])
-            before, filled = before + filled, 0
-            words, rows, start, at_next, ask, asked = _room(index, words[0])
-            words[1] = leaf
-            status = ask(*asked)
-        if status:
-            if status == NoCell.status:
-                raise placed(no_cell(leaf, "leaf"), "place", place + number)
-            expect(status)
-        filled += words[0]
-        ends[number] = before + filled
-        if filled > _ROOM:
-            found += read(rows[: filled * PACKED])
-            before, filled = before + filled, 0
-    found += read(rows[: filled * PACKED])
-    return found
+def _memory(size: int) -> memoryview:
+    """So many bytes of zeros. From NumPy they take no time until they are written to."""
+    numpy = _numpy()
+    return memoryview((ctypes.c_uint64 * -(-size // WORD))()).cast("B") if numpy is None else memoryview(numpy.zeros(size, "u1"))
 
 
-def _room(index: Index, spare: int) -> tuple[memoryview, memoryview, int, ctypes.c_void_p, Callable[..., int], tuple[Any, ...]]:
-    """Room for rows, and the call that puts those of one leaf there: two words, of which the first gets the number of rows, and the second
-    is the leaf; the rows of all leaves; where these begin; where the next leaf's go; the call; and what it takes. The room is emptied when
-    some rows are in it, and beyond these it is for so many rows more."""
-    words = (ctypes.c_uint64 * (2 + 2 * (_ROOM + spare)))()
-    view, start = memoryview(words).cast("B"), addressof(words) + 2 * WORD
-    leaf, at_next = ctypes.c_uint64.from_buffer(words, WORD), ctypes.c_void_p(start)
-    asked = ctypes.byref(index._handle), leaf, at_next, ctypes.c_size_t(spare), ctypes.byref(words)
-    return view.cast("Q"), view[2 * WORD :], start, at_next, index._ask_at, asked
+def _is_whole(parts: list[memoryview]) -> bool:
+    """Whether a part can stay as it lies: it is the only one, and most of its memory isn't free."""
+    if len(parts) != 1:
+        return False
+    taken = memoryview(parts[0].obj).nbytes
+    return 2 * len(parts[0]) >= taken or _numpy() is not None and taken > _FREE
+
+
+def _rows_in(parts: list[memoryview]) -> memoryview:
+    """A memoryview whose items are rows."""
+    packed: Any = parts[0] if _is_whole(parts) else bytearray().join(parts)
+    return memoryview((library.PackedRow * (len(packed) // PACKED)).from_buffer(packed))
+
+
+def _labels_in(parts: list[memoryview]) -> array[int]:
+    labels = array("I")
+    for part in parts:
+        labels.frombytes(part)
+    return labels
+
+
+_ROWS = _Kind(PACKED, [("cell", "<u8"), ("label", "<u4"), ("count", "<u4")], _rows_in)
+_LABELS = _Kind(HALF, "<u4", _labels_in)

@@ -33,8 +33,8 @@ def join(
     names: Optional[Names] = None, threads: int = 1,
 ) -> Any:
     """`frames.join` of each partition of a dask.dataframe with the index of a dump, which is its text, or a path that each process can
-    open. A process opens the index once, and keeps it for later joins with the same dump. If a file has changed since the join was made,
-    ValueError is raised. The `threads` are those of `Index.at_each`, and save no time if Python has a GIL: Dask's processes do. ::
+    open. A process opens the index once, and keeps it for later joins with the same dump. The join raises ValueError if the file has changed
+    since it was made. The `threads` are those of `Index.at_each`, for each partition: they work beside Dask's processes. ::
 
         points = dask.dataframe.read_parquet("points")
         clusters.join(points, "zones.dump").groupby("label").size().compute()
@@ -54,6 +54,8 @@ def join(
 
 def _place_of(dump: Union[Text, os.PathLike[str]]) -> tuple[Optional[str], bytes]:
     """The path of a dump, if it is given by one, and its text. A text has a line feed; no path that is given as a str has."""
+    if isinstance(dump, Index):
+        raise TypeError("zones are a dump, not an Index: its dump() is one")
     if isinstance(dump, os.PathLike) or isinstance(dump, str) and "\n" not in dump:
         path = os.path.abspath(dump)
         return path, _read(path)
@@ -90,11 +92,11 @@ def join_parts(
     points: Any, zones: Any, parts: int = 16, leaf: Hashable = "leaf", label: Hashable = "label", how: str = "inner",
     names: Optional[Names] = None, threads: int = 1, cell: Hashable = "cell", pairs: int = 1_000_000,
 ) -> Any:
-    """As `join`, with zones that may be too many for one index: a DataFrame of pandas with a column of cells and one of labels, which
-    has the name that the labels get in the answer.
+    """As `join`, with zones that may be too many for one index: a DataFrame of pandas with a column of cells, numbers or tokens, and one of
+    labels, which has the name that the labels get in the answer. Equal pairs count once.
 
-    The leaves are cut into so many ranges at quantiles of a sample of the points, which is read at once, and again, if more than
-    `pairs` pairs meet a range. Each range has an index of its own, with the zones that have a leaf of it, in some process. The leaves of
+    The call reads a sample of the points at once, and cuts the leaves at its quantiles into `parts` ranges. It cuts a range further if more
+    than `pairs` pairs meet it. Each range has an index of its own, with the zones that have a leaf of it, in some process. The leaves of
     the points go there, and their labels come back; the other columns stay where they are. With p partitions and r ranges there are some
     2 p r small tasks.
 
@@ -114,9 +116,9 @@ def join_parts(
     sampled = dask.compute(*[dask.delayed(_sample)(column, place) for place, column in enumerate(columns)])
     bounds = _cut(rows["cell"], _quantiles(sampled, parts), pairs)
     leaves = [dask.delayed(_leaves_by_range)(column, bounds) for column in columns]
-    found = [
-        dask.delayed(_found)(part, [each[place] for each in leaves], threads) for place, part in enumerate(_rows_by_range(rows, bounds))
-    ]
+    # (each part is a value of its own in the graph, since Dask warns of tasks with much in them)
+    parted = [dask.delayed(part, traverse=False) for part in _rows_by_range(rows, bounds)]
+    found = [dask.delayed(_found)(part, [each[place] for each in leaves], threads) for place, part in enumerate(parted)]
     kept = dask.delayed(names, traverse=False)
     joined = [
         dask.delayed(_put_together)(block, leaf, bounds, [each[place] for each in found], label, how, kept)

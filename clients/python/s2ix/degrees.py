@@ -53,6 +53,8 @@ def leaf(latitude: Any, longitude: Any) -> Any:
     """
     if getattr(latitude, "ndim", 0) or getattr(longitude, "ndim", 0):
         return _leaves(latitude, longitude)
+    if isinstance(latitude, list) or isinstance(longitude, list):
+        raise TypeError("lists go in as numpy.array")
     if not -90 <= latitude <= 90:
         raise _refusal("latitude", latitude)
     if not -sys.float_info.max <= longitude <= sys.float_info.max:

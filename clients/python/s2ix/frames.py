@@ -16,20 +16,21 @@ def join(
     points: Any, index: Index, leaf: Hashable = "leaf", label: Hashable = "label", how: str = "inner", names: Optional[Names] = None,
     threads: int = 1,
 ) -> Any:
-    """The points of a DataFrame with the labels over them: a row for each point and label, in the order of the points, and for one point as
-    `Index.at` has them, the innermost cell first. The labels are a new last column.
+    """The points of a DataFrame with the labels over them: a row for each point and each pair over it, in the order of the points, and for
+    one point as `Index.at` has them, the innermost cell first. The labels are a new last column. A label comes twice if the point is in two
+    of its cells: `Index.add_union` lays a zone without a cell within another.
 
     It is a merge of the column `leaf` with a frame whose index has the leaves, `points.merge(answers, left_on=leaf, right_index=True)`: all
-    columns are kept, and the index is, each value as often as its point. How "inner" drops the points without a label; "left" keeps them,
-    with a label that is missing. So the column of labels is of the dtype "uint32", or, if `how` is "left", of the nullable "UInt32". With
-    `names` it has the names of labels; a label without one gets a missing value, as by `Series.map`.
+    columns are kept, and the index is, each value as often as its point. `how="inner"` drops the points without a label, `how="left"` keeps
+    them, with a label that is missing. So the column of labels is of the dtype "uint32", or, if `how` is "left", of the nullable "UInt32".
+    With `names` it has the names of labels; a label without one gets a missing value, as by `Series.map`.
 
     Leaves are 64-bit integers with or without sign, nullable ones of pandas, categories of these, or Python's ints and tokens in a column
-    of objects. A missing leaf is in no zone; a column of these alone may have any dtype. Floats are a TypeError, since they don't hold 64
-    bits: pandas makes them of integers beside missing values, if these aren't read as "UInt64".
+    of objects. A missing leaf is in no zone; if all are missing, the column may have any dtype. Floats are a TypeError, since they don't
+    hold 64 bits: pandas makes floats of integers if some are missing, unless it reads them as "UInt64".
 
     Raises KeyError if there is no column `leaf`, ValueError if there is a column `label`, NoCell with the row of the first number that is
-    no leaf's, and what `Index.labels_at_each` does, whose `threads` these are: they save no time if Python has a GIL. ::
+    no leaf's, and what `Index.labels_at_each` does, whose `threads` these are. ::
 
         points = pandas.DataFrame({"parcel": [1, 2], "leaf": [0x0400000000000001, 0x0C00000000000001]})
         frames.join(points, zones, names={3: "Alfama", 9: "Baixa"})
@@ -38,6 +39,8 @@ def join(
         # 0       1  288230376151711745  Alfama
         # 1       2  864691128455135233  Alfama
     """
+    if not isinstance(index, Index):
+        raise TypeError(f"points are joined with an Index, not {type(index).__name__}: clusters.join takes dumps")
     expect_columns(points, leaf, label, how)
     leaves, places = leaves_of(points[leaf])
     ends, labels = index.labels_at_each(leaves, threads)

@@ -16,6 +16,10 @@ from s2ix.tokens import Cell, cell_of, is_cell, no_cell
 Text = Union[str, bytes, bytearray, memoryview]
 #: One cell, or many: of any order, and repeated or not. A memoryview or array of 64-bit numbers is passed on as it lies.
 Cells = Union[Cell, Iterable[Cell], memoryview, "array[int]"]
+#: Targets, each a cell or many. In a memoryview or array of 64-bit numbers each cell is a target.
+Targets = Union[Iterable[Cells], memoryview, "array[int]"]
+#: From one of these places up to the next the cells of each target lie, if those of all targets lie in one row.
+Bounds = Union[Iterable[int], memoryview, "array[int]"]
 #: Rows to add or to remove, each a cell, a label and copies. A writable memoryview of packed rows is passed on as it lies.
 Rows = Union[Iterable["tuple[Cell, int, int]"], memoryview]
 #: The entries of a change, each a cell, a label and the counts before and after: by rising cell, then label.
@@ -27,7 +31,7 @@ _WORD = 8
 _row, _entry = struct.Struct("=QII"), struct.Struct("=QIII4x")
 _TEXTS = (str, bytes, bytearray, memoryview)
 # Where no cells lie. It is never written to.
-_NONE = ctypes.c_uint64()
+NO_WORD = ctypes.c_uint64()
 
 
 def bytes_of(text: Text) -> bytes:
@@ -58,6 +62,7 @@ def cells_in(cells: Cells, after: int = 0) -> tuple[int, int, object]:
     elif isinstance(cells, (int, str)) and not isinstance(cells, bool):
         words = array("Q", (_number_at(after, cells),))
     else:
+        expect_plain(cells, "cells")
         view = _view_of(cells)
         if view is None and (isinstance(cells, bool) or not hasattr(cells, "__index__")):
             words = _array_of(cells, after)
@@ -72,13 +77,19 @@ def cells_in(cells: Cells, after: int = 0) -> tuple[int, int, object]:
             first = ctypes.c_char.from_buffer(view)
             return ctypes.addressof(first), len(view), first
     start, many = words.buffer_info()
-    return (start, many, words) if many else (ctypes.addressof(_NONE), 0, words)
+    return (start, many, words) if many else (ctypes.addressof(NO_WORD), 0, words)
 
 
 def cells_copied(cells: Cells) -> array[int]:
     """The numbers of cells in memory that no one else changes."""
     start, many, kept = cells_in(cells)
     return kept if isinstance(kept, array) and kept is not cells else array("Q", ctypes.string_at(start, many * _WORD))
+
+
+def expect_plain(given: Any, kind: str) -> None:
+    """Raises TypeError for an array with a mask, since its memory has what is masked too."""
+    if hasattr(given, "filled"):
+        raise TypeError(f"{kind} are in a plain array, not in a masked one")
 
 
 def _view_of(given: Any) -> Optional[memoryview]:
@@ -130,7 +141,7 @@ def rows_in(rows: Rows, too_many: type[S2ixError] = TooManyCopies) -> tuple[int,
                 return ctypes.addressof(first), len(view), first
         words = array("Q", view.tobytes())
     start, many = words.buffer_info()
-    return (start, many // 2, words) if many else (ctypes.addressof(_NONE), 0, words)
+    return (start, many // 2, words) if many else (ctypes.addressof(NO_WORD), 0, words)
 
 
 def _packed(items: Any, layout: struct.Struct, packed_alone: Callable[..., bytes], kind: str, size: int, words: str) -> bytes:
@@ -181,7 +192,7 @@ def entries_in(entries: Entries) -> tuple[int, int, object]:
     """Where packed entries lie, how many there are, and what keeps them there."""
     words = array("Q", _packed(entries, _entry, _packed_entry, "entry", 4, "entries are each a cell, a label and two counts"))
     start, many = words.buffer_info()
-    return (start, many // 3, words) if many else (ctypes.addressof(_NONE), 0, words)
+    return (start, many // 3, words) if many else (ctypes.addressof(NO_WORD), 0, words)
 
 
 def _packed_entry(place: int, cell: Cell, label: int, before: int, after: int) -> bytes:

@@ -6,10 +6,10 @@ from contextlib import contextmanager
 from ctypes import addressof
 from typing import Any, Callable, Iterator, Optional, TypeVar
 
-from s2ix.batches import labels_of_each, rows_of_each
+from s2ix.batches import labels_met_by_each, labels_of_each, rows_met_by_each, rows_of_each
 from s2ix.edits import Edits
 from s2ix.given import (
-    MOST_U32, MOST_U64, Cells, Text, bytes_of, cells_copied, cells_in, check, check_natural, number_of, wrong_cell,
+    MOST_U32, MOST_U64, Bounds, Cells, Targets, Text, bytes_of, cells_copied, cells_in, check, check_natural, number_of, wrong_cell,
 )
 from s2ix.refusals import NoCell, NoLabel, NoLimits, NoRange, NoSuchChange, NothingToUndo, TooFewChanges, expect, expect_at
 from s2ix.rows import (
@@ -40,9 +40,9 @@ class Index(Edits):
     Close an index by `close`, or use it in a `with`.
 
     Threads may share an index. Each call but `set_label` answers as if it were alone: it writes only to memory of its own, and waits while
-    another call on the index runs. A finalizer or a signal handler may call too. An edit of another thread may come between two calls: hold
-    your own lock over calls that belong together. `undo` takes the last change back, whichever thread made it. Only one thread at a time
-    may use an iterator. It reads page by page: if an edit came after its first page, even a refused one, the next page raises RuntimeError.
+    another call on the index runs, but not for `at_each` and its like, which work on a copy. A finalizer or a signal handler may call too. An edit of
+    another thread may come between two calls: hold your own lock over calls that belong together. `undo` takes the last change back,
+    whichever thread made it. Only one thread at a time may use an iterator. It reads page by page: if an edit came after its first page, even a refused one, the next page raises RuntimeError.
     While a call runs, don't change the array or the memory that you gave it. In the forked child of a process with threads, use no index of
     the parent.
 
@@ -170,7 +170,7 @@ class Index(Edits):
 
     def close(self) -> None:
         """Frees all that is held. Each later call raises Closed, but a second `close` does nothing. It waits for a call that runs on
-        another thread."""
+        another thread, but not for `at_each` and its like."""
         # (not by the finalizer: if two threads call it, it returns to the second before the first has closed)
         self._calls.s2ix_close(self._at_handle)
         self._close.detach()
@@ -300,15 +300,19 @@ class Index(Edits):
             raise no_cell(leaf, "leaf") from None
 
     def at_each(self, leaves: Cells, threads: int = 1) -> tuple[Any, Any]:
-        """What `at` returns for each of many leaves, as two arrays: how many rows there are up to and with each leaf, and the rows of all,
+        """What `at` returns for each of many leaves, as two arrays: the number of rows over the leaves up to this one, and the rows of all,
         one leaf after the other, packed as those of `meet_view`. So the rows of the second leaf are `rows[ends[0]:ends[1]]`.
 
-        An array or a memoryview of 64-bit integers in one row, with or without sign, is read as it lies, also a column of pandas; a
-        nullable column is copied. The answer is of NumPy's arrays if NumPy is installed, else an `array` of numbers and a memoryview of
-        rows. The leaves are cut among so many threads, which take turns and save no time if Python has a GIL; all are answered from what is
-        held when the call begins. O(p + m log n + k) for m leaves and k rows, with p as in `copy`. If one is refused, none is answered.
-        Raises Closed, OutOfMemory, or NoCell with the first number that is no leaf's and its place, counted from 0; TypeError for arrays of
-        other numbers, and for missing values; and ValueError for threads below 1.
+        Leaves may be any iterable of numbers and tokens. The call reads a 1-D array, memoryview or pandas column of 64-bit integers in
+        place, signed or not, in the machine's order of bytes; it copies a nullable column, a slice with steps, and, if NumPy isn't
+        installed, memory that can't be written. It returns NumPy arrays if NumPy is installed, else an `array` of numbers and a memoryview
+        of rows.
+
+        At most `threads` threads share the leaves; few leaves have fewer. The call releases the GIL while the library works, so other
+        threads of the program run too, and may edit or close the index: all answers are of what the index held when the call began.
+        O(p + m log n + k) for m leaves and k rows, with p as in `copy` and for each thread; it is quickest if the leaves rise. If one is
+        refused, none is answered. Raises Closed, OutOfMemory, or NoCell with the first number that is no leaf's and its place, counted from
+        0; TypeError for arrays of other numbers or with a mask, and for missing values; and ValueError for threads below 1.
 
         >>> index = Index()
         >>> index.add("1", 3), index.add("04", 9)
@@ -320,7 +324,8 @@ class Index(Edits):
         return rows_of_each(self, leaves, threads)
 
     def labels_at_each(self, leaves: Cells, threads: int = 1) -> tuple[Any, Any]:
-        """As `at_each`, but with labels in place of rows: how many there are up to and with each leaf, and the labels of all leaves.
+        """As `at_each`, but with labels in place of rows: how many there are over the leaves up to this one, and the labels of all leaves. A
+        label is repeated if a leaf lies in several cells of it.
 
         >>> index = Index()
         >>> index.add("1", 3), index.add("04", 9)
@@ -366,6 +371,43 @@ class Index(Edits):
         (1, 1, [3, 9], [3])
         """
         return self._of_cells(self._calls.s2ix_labels, HALF, labels_of, cells)
+
+    def meet_each(self, targets: Targets, threads: int = 1, *, bounds: Optional[Bounds] = None) -> tuple[Any, Any]:
+        """What `meet` returns for each of many targets, as two arrays like those of `at_each`: the number of rows of the targets up to this
+        one, and the rows of all, one target after the other.
+
+        A target is what `meet` takes, a cell or many, or an array of signed ones. In an array of 64-bit integers each cell is a target. With
+        `bounds`, the cells of all targets lie in one row, and target k has those from `bounds[k]` on and before `bounds[k + 1]`: there is
+        one bound more than there are targets, and the first is mostly 0. Cells after the last bound belong to no target. Arrays are then
+        read as they lie, like leaves; targets without bounds are copied. Threads are as in `at_each`.
+
+        It costs what `meet` does for each target, besides a copy for each thread. Raises as `at_each` does, but NoCell and NoSpan with the
+        place of the first target that is refused: NoCell has the number that is no cell's, NoSpan the bound that is below the one before or
+        above the number of cells.
+
+        >>> index = Index()
+        >>> index.add_union(["04", "0c"], 9), index.add("1", 3)
+        (2, 1)
+        >>> ends, rows = index.meet_each([["04", "0c"], "14", []])
+        >>> ends.tolist(), len(rows)
+        ([3, 4, 4], 4)
+        >>> index.meet_each(["04", "0c", "14"], bounds=[0, 2, 3, 3])[0].tolist()
+        [3, 4, 4]
+        """
+        return rows_met_by_each(self, targets, threads, bounds)
+
+    def labels_each(self, targets: Targets, threads: int = 1, *, bounds: Optional[Bounds] = None) -> tuple[Any, Any]:
+        """As `meet_each`, but with what `labels` returns for each target: the number of labels of the targets up to this one, and the
+        labels of all, for each target rising and each once.
+
+        >>> index = Index()
+        >>> index.add_union(["04", "0c"], 9), index.add("1", 3)
+        (2, 1)
+        >>> ends, labels = index.labels_each([["04", "0c"], "14", []])
+        >>> ends.tolist(), labels.tolist()
+        ([2, 3, 3], [3, 9, 3])
+        """
+        return labels_met_by_each(self, targets, threads, bounds)
 
     def region(self, label: int) -> list[int]:
         """The region of a label: the normal union of its cells, rising; [] if no pair of it is held. O(n + m log m) for m pairs of the

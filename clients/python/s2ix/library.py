@@ -75,9 +75,13 @@ CALLS = {
     "s2ix_forget_older": [address, size],
     "s2ix_clear": [address],
     "s2ix_at": [address, u64, address, size, address],
+    "s2ix_at_each": [address, address, size, address, size, address, size, address],
+    "s2ix_labels_at_each": [address, address, size, address, size, address, size, address],
     "s2ix_meet": [address, address, size, address, size, address],
     "s2ix_meet_from": [address, address, size, size, address, size, address],
     "s2ix_labels": [address, address, size, address, size, address],
+    "s2ix_meet_each": [address, address, size, address, size, address, size, address, size, address],
+    "s2ix_labels_each": [address, address, size, address, size, address, size, address, size, address],
     "s2ix_region": [address, u32, address, size, address],
     "s2ix_of_label": [address, u32, address, size, address],
     "s2ix_held_labels": [address, address, size, address],
@@ -137,6 +141,8 @@ ANSWERS = {
     "s2ix_cell_contains": ctypes.c_bool,
     "s2ix_cell_intersects": ctypes.c_bool,
 }
+#: The calls for many leaves or targets, which may take long.
+LONG = ("s2ix_at_each", "s2ix_labels_at_each", "s2ix_meet_each", "s2ix_labels_each")
 
 
 def places() -> list[str]:
@@ -162,6 +168,17 @@ def load() -> ctypes.PyDLL:
     for name, takes in CALLS.items():
         call = getattr(library, name)
         call.argtypes, call.restype = takes, ANSWERS.get(name, u32)
+    return library
+
+
+@functools.lru_cache(maxsize=None)
+def load_unlocked() -> Any:
+    """The long calls of the same library. During these Python's lock is released, so other threads of Python run. So no other call may take
+    the handle that one is given."""
+    library = ctypes.CDLL(load()._name, handle=load()._handle)
+    for name in LONG:
+        call = getattr(library, name)
+        call.argtypes, call.restype = CALLS[name], u32
     return library
 
 
