@@ -15,7 +15,7 @@ OUT = f"{BENCH}/out"
 sys.path.insert(0, f"{TOP}/tools")
 import workspace  # noqa: E402
 
-PACKAGES = ("libs2-dev", "g++", "valgrind")
+PACKAGES = ("libs2-dev", "g++", "valgrind", "python3-pandas", "python3-dask", "python3-distributed")
 # The crates that ours is built on: doors, and two rooms whose definitions and lemmas its proofs cite.
 USED = ("s2id_core", "s2id_union", "s2id_cube", "s2ix_bag", "s2ix_edit", "s2ix_table", "s2ix_text", "s2ix_bag_pairs", "s2ix_table_walk")
 FLAGS = ("-std=c++17", "-O2", "-DNDEBUG", "-Wall", "-Wextra", "-Wno-unused-parameter", "-Wno-deprecated-declarations")
@@ -26,7 +26,7 @@ S2_CLASSES = ("s2cell_id", "s2cell_index", "s2cell_union")
 S2 = ("-Wl,--copy-dt-needed-entries", "-ls2")
 ARCHIVE = "[signed-by=/usr/share/keyrings/debian-archive-keyring.gpg] http://deb.debian.org/debian"
 PROGRAMS = {"session": ("session", "turns", "s2_side", "read_dump", "scene"), "script": ("script", "read_dump"), "texts": ("texts", "scene"),
-            "edits": ("edits", "scene")}
+            "edits": ("edits", "scene"), "at_once": ("at_once",)}
 
 
 def say(text):
@@ -148,6 +148,8 @@ def linked_with(program):
         return [*compiled_s2(), f"{OUT}/libours.a", f"{workspace.kit()}/c/liblibc_c.a"]
     if program == "edits":
         return [*compiled_s2(), f"{OUT}/libs2ix.a", "-lpthread"]
+    if program == "at_once":
+        return [f"{OUT}/libs2ix.a", "-lpthread"]
     return compiled_s2()
 
 

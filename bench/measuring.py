@@ -18,11 +18,17 @@ Alone = collections.namedtuple("Alone", "middle most")
 # After so many random edits points are asked again.
 CHANGES = 800_000
 MOST_COUNTED = 100_000
+# The Python that Debian's packages are for: another may come first on the path.
+DEBIAN_PYTHON = "/usr/bin/python3"
 # How often a script's lines are repeated, so that they take long beside a load.
 REPEATS = 5
 SCRIPTS = ("load", "at", "meet 8", "labels 8", "meet 8 apart", "labels 8 apart", "meet 500", "meet 500 apart")
 # The figures of the index have a name of these; the others don't depend on the pairs.
 OF_INDEX = ("adds and build", "build of a table", "load of a dump", "edit with a query", "point", "8 cells", "500 cells", "bytes a pair")
+
+
+# Those of many points by one call have a table of their own.
+AT_ONCE = "points at once, "
 
 
 def is_of_index(name):
@@ -34,7 +40,7 @@ class Measured:
 
     def __init__(self, sizes):
         self.sizes = sizes
-        self.times, self.programs, self.instructions, self.edits, self.files = {}, {}, {}, {}, {}
+        self.times, self.programs, self.instructions, self.edits, self.at_once, self.files, self.clusters = {}, {}, {}, {}, {}, {}, {}
 
     def measure_sessions(self, seconds):
         for size in self.sizes:
@@ -60,12 +66,27 @@ class Measured:
                 for name, figure in program_times(folder).items():
                     self.programs[name, size] = figure
 
+    def measure_at_once(self):
+        around = {**os.environ, "S2IX_LIBRARY": f"{OUT}/libs2ix.so"}
+        for size in self.sizes:
+            say(f"measuring many points at once over {size:,} pairs, from C and Python")
+            found = set()
+            with tempfile.TemporaryDirectory(prefix="s2ix-bench-") as folder:
+                making.run([f"{OUT}/texts", str(size), folder])
+                for words in ([f"{OUT}/at_once"], [sys.executable, f"{TOP}/bench/at_once.py"]):
+                    *figures, told = lines_of([*words, folder], env=around)
+                    self.at_once.update({(name, size): float(figure) for name, figure in (line.split("\t") for line in figures)})
+                    found.add(told)
+            if len(found) > 1:
+                sys.exit("bench: C and Python find other labels")
+
     def measure_files(self):
         say("measuring an index in a file")
-        around = {**os.environ, "S2IX_LIBRARY": f"{OUT}/libs2ix.so"}
-        for line in lines_of([sys.executable, f"{TOP}/bench/in_a_file.py", OUT], env=around):
-            name, figure = line.split("\t")
-            self.files[name] = float(figure)
+        self.files = figures_of([sys.executable, f"{TOP}/bench/in_a_file.py", OUT])
+
+    def measure_clusters(self):
+        say("measuring joins of frames, by one process and by three")
+        self.clusters = figures_of([DEBIAN_PYTHON, f"{TOP}/bench/on_a_cluster.py"])
 
     def count_instructions(self):
         for size in self.sizes:
@@ -82,6 +103,12 @@ def lines_of(words, **how):
     if ran.returncode:
         sys.exit(f"bench: this failed: {' '.join(words)}")
     return ran.stdout.splitlines()
+
+
+def figures_of(words):
+    """The figures that a script of the bench prints over the library for C, by their names."""
+    lines = lines_of(words, env={**os.environ, "S2IX_LIBRARY": f"{OUT}/libs2ix.so"})
+    return {name: float(figure) for name, figure in (line.split("\t") for line in lines)}
 
 
 def session_lines(words):

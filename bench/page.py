@@ -1,4 +1,5 @@
 """What was measured, as tables in Markdown, and the page docs/PERFORMANCE.md."""
+import importlib.metadata
 import os
 import platform
 import re
@@ -6,12 +7,13 @@ import sqlite3
 import subprocess
 
 import making
-from measuring import is_of_index
+from measuring import AT_ONCE, is_of_index
 
 UNITS = {"adds and build": "a pair", "build of a table": "a pair", "load of a dump": "a pair", "edit with a query": "an edit",
          "point": "a point", "8 cells": "a target", "500 cells": "a target"}
-
-
+# Who asks for many points at once, and beside whom.
+AT_ONCE_ROWS = {"C, 1": ("from C", "C, 1"), "C, 4": ("from C by four threads", "C, 1"), "Python, 1": ("from Python", "C, 1"),
+                "Python, 4": ("from Python by four threads", "Python, 1")}
 FILES = {"FULL": "edits a second, `synchronous=\"FULL\"`", "NORMAL": "edits a second, `synchronous=\"NORMAL\"`", "in memory": "edits a second of an `Index`, which has no file",
          "open": "ms to open the file with 10,000 changes", "open compact": "ms to open it once `compact` has forgotten these"}
 
@@ -52,7 +54,26 @@ def named(name):
 
 
 def index_table(measured):
-    return table_of(measured.times, names_of(measured.times, is_of_index), measured.sizes, "ns, ours : S2")
+    names = names_of(measured.times, lambda name: is_of_index(name) and not name.startswith(AT_ONCE))
+    return table_of(measured.times, names, measured.sizes, "ns, ours : S2")
+
+
+def at_once_table(measured):
+    """Many points by one call: beside S2, and how many a second from C and from Python."""
+    yield f"| | {' | '.join(f'{size:,}' for size in measured.sizes)} |"
+    yield f"|---|{'---|' * len(measured.sizes)}"
+    for name in names_of(measured.times, lambda name: name.startswith(AT_ONCE)):
+        cells = [cell(measured.times[name, size]) for size in measured.sizes]
+        yield f"| {name.removeprefix(AT_ONCE)}, ns a point, ours : S2 | {' | '.join(cells)} |"
+    for name, (words, base) in AT_ONCE_ROWS.items():
+        cells = [millions(measured.at_once[name, size], measured.at_once[base, size]) for size in measured.sizes]
+        yield f"| {words}, millions of points a second | {' | '.join(cells)} |"
+
+
+def millions(nanoseconds, base):
+    """How many millions a second that is, and how many times as many as another's."""
+    told = digits(1000 / nanoseconds)
+    return told if nanoseconds == base else f"{told} ({digits(base / nanoseconds)})"
 
 
 def alone(figure):
@@ -88,6 +109,15 @@ def files_table(measured):
         yield f"| {words} | {digits(measured.files[name])} |"
 
 
+def clusters_table(measured):
+    yield "| millions of points a second | `join` | `join_parts` |"
+    yield "|---|---|---|"
+    yield f"| `s2ix.frames`, one process | {digits(measured.clusters['frames.join'] / 1e6)} | |"
+    for workers in sorted({int(name.split()[1]) for name in measured.clusters if " " in name}):
+        cells = [digits(measured.clusters[f"{name} {workers}"] / 1e6) for name in ("join", "join_parts")]
+        yield f"| `s2ix.clusters`, {workers} worker{'s' if workers > 1 else ''} | {' | '.join(cells)} |"
+
+
 def instructions_table(measured):
     sizes = [size for size in measured.sizes if any(counted == size for _, counted in measured.instructions)]
     return table_of(measured.instructions, names_of(measured.instructions), sizes, "instructions, ours : S2")
@@ -95,7 +125,10 @@ def instructions_table(measured):
 
 def tables(measured):
     """All tables as one text."""
-    parts = [index_table(measured), edits_table(measured), ids_table(measured), programs_table(measured), files_table(measured)]
+    parts = [
+        index_table(measured), at_once_table(measured), edits_table(measured), ids_table(measured), programs_table(measured), files_table(measured),
+        clusters_table(measured),
+    ]
     if measured.instructions:
         parts.append(instructions_table(measured))
     return "\n\n".join("\n".join(part) for part in parts)
@@ -134,6 +167,19 @@ def system():
         return re.search(r'^PRETTY_NAME="(.*)"', file.read(), re.M)[1] + f", {platform.machine()}"
 
 
+def numpy_version():
+    """The NumPy of the Python that runs, in words."""
+    try:
+        return f"NumPy {importlib.metadata.version('numpy')}"
+    except importlib.metadata.PackageNotFoundError:
+        return "no NumPy"
+
+
+def upstream(package):
+    """The version that a package is made of."""
+    return re.split(r"[+-]", making.version_of(package))[0]
+
+
 def joined(lines):
     return "\n".join(lines)
 
@@ -146,8 +192,10 @@ def write(measured):
         counted = "\n".join(["", "## Instructions", "", COUNTED, "", *instructions_table(measured), ""])
     text = PAGE.format(
         machine=machine(), system=system(), s2=making.version_of("libs2-dev"), compiler=said_by("g++", "--version").splitlines()[0],
-        index=joined(index_table(measured)), edits=joined(edits_table(measured)), ids=joined(ids_table(measured)), programs=joined(programs_table(measured)),
-        files=joined(files_table(measured)), python=platform.python_version(), sqlite=sqlite3.sqlite_version, ahead=behind, counted=counted)
+        index=joined(index_table(measured)), at_once=joined(at_once_table(measured)), edits=joined(edits_table(measured)),
+        ids=joined(ids_table(measured)), programs=joined(programs_table(measured)), files=joined(files_table(measured)),
+        clusters=joined(clusters_table(measured)), python=platform.python_version(), numpy=numpy_version(), sqlite=sqlite3.sqlite_version,
+        pandas=upstream("python3-pandas"), dask=upstream("python3-dask"), processors=os.cpu_count(), ahead=behind, counted=counted)
     with open(f"{making.TOP}/docs/PERFORMANCE.md", "w", encoding="utf-8") as file:
         file.write(text)
 
@@ -189,6 +237,21 @@ world.
 - *Labels*: `labels`, a new rising list, beside the `GetIntersectingLabels` that returns a new hash set.
 - *Bytes*: what the allocator gave for bag and table of a store, which can be edited, beside S2's index.
 
+## Many points at once
+
+{at_once}
+
+One call asks for a million points, which lie in zones too. The labels over them go into one list, point by point, and where the labels of each
+point end into another.
+
+- *Unsorted*: `at_each`, beside a `RangeIterator` that seeks each point, and a `ContentsIterator`.
+- *Rising*: the same over points that were sorted before. S2's iterators are kept, and seek only if a point lies behind the next range.
+- *From C*: `s2ix_labels_at_each` over the unsorted points, into lists that have room for all.
+- *From Python*: `Index.labels_at_each` over them, by Python {python} with {numpy}. It returns new lists.
+- *By four threads*: each asks a copy of its own for a quarter of the points.
+
+The last four rows are by the clock, the best of nine calls. The figures in brackets are ratios: of four threads to one, and of Python to C.
+
 ## Edits and copies
 
 {edits}
@@ -218,4 +281,13 @@ empty script, and at few pairs mostly the start of a process with S2's shared li
 
 By Python {python} with SQLite {sqlite}, over 10,000 pairs: the best of several runs, by the clock, since an edit waits for the disk. Each edit
 adds one pair by a call of its own, and is in the file when the call returns.
+
+## On a cluster
+
+{clusters}
+
+By Debian's pandas {pandas} and Dask {dask}: the best of several runs, by the clock, from the call to the number of rows. A cluster is
+Dask's `LocalCluster` on this machine of {processors} processors: workers are processes with a thread each, beside one that gives out the
+work. It joins 12,000,000 points, which lie in the workers' memory in 48 partitions, and the labels stay there; one process joins 3,000,000
+of them. Most points are in one or two of 100,000 zones, each a cell of level 11 to 14. `join_parts` cuts these into 16 indexes.
 {counted}"""

@@ -18,6 +18,10 @@ struct Answers {
   std::vector<Text> texts;
   // For each target how many answers there are, and then these.
   std::vector<uint64_t> list;
+  // The labels over each of some points, those of one point behind those of another, and how many there are up to and with each point.
+  // There is room for more labels.
+  std::vector<size_t> ends;
+  std::vector<uint32_t> labels;
 };
 
 template <typename T>
@@ -33,6 +37,8 @@ struct Shown {
   Slice<Four> fours;
   Slice<Text> texts;
   Slice<uint64_t> list;
+  Slice<size_t> ends;
+  Slice<uint32_t> labels;
 };
 
 #endif

@@ -23,6 +23,8 @@ enum Order : uint32_t {
   kFewApartLabels = 21,
   kManyApartVisit = 22,
   kManyApartLabels = 23,
+  kPointsUnsorted = 24,
+  kPointsRising = 25,
 
   kTokenRead = 30,
   kTokenPrint = 31,
@@ -48,5 +50,8 @@ enum Order : uint32_t {
 constexpr size_t kFewCells = 8;
 constexpr size_t kManyCells = 500;
 constexpr size_t kShapeCells = 1000;
+// Points at once have room for so many labels each on average; the pairs over so many of them are listed.
+constexpr size_t kLabelsOfPoint = 16;
+constexpr size_t kListedPoints = 20000;
 
 #endif

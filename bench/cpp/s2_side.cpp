@@ -91,6 +91,8 @@ void S2Side::Prepare() {
   leaves_ = CellsOf(scene_.leaves);
   mixed_ = CellsOf(scene_.mixed);
   rim_ = CellsOf(scene_.rim);
+  unsorted_ = CellsOf(scene_.points);
+  rising_ = CellsOf(scene_.rising);
   for (S2CellId cell : mixed_) {
     tokens_.push_back(cell.ToToken());
     int level = cell.level(), i, j;
@@ -100,6 +102,8 @@ void S2Side::Prepare() {
   answers_.slots.resize(mixed_.size());
   answers_.fours.resize(mixed_.size());
   answers_.texts.resize(mixed_.size());
+  answers_.ends.resize(unsorted_.size());
+  answers_.labels.resize(kLabelsOfPoint * unsorted_.size());
 }
 
 void S2Side::CarryOut(uint32_t order) {
@@ -132,6 +136,8 @@ uint64_t S2Side::OverIndex(uint32_t order) {
     case kFewApartLabels: return LabelSums(few_apart_);
     case kManyApartVisit: return VisitSums(many_apart_);
     case kManyApartLabels: return LabelSums(many_apart_);
+    case kPointsUnsorted: return LabelUnsorted();
+    case kPointsRising: return LabelRising();
     default: return 0;
   }
 }
@@ -173,6 +179,38 @@ uint64_t S2Side::LabelSums(const std::vector<S2CellUnion>& targets) const {
     for (S2CellIndex::Label label : index_->GetIntersectingLabels(target)) sum += static_cast<uint64_t>(label);
   }
   return sum;
+}
+
+// Points in no order: each is looked for anew.
+uint64_t S2Side::LabelUnsorted() {
+  size_t end = 0;
+  for (size_t k = 0; k < unsorted_.size(); ++k) {
+    S2CellIndex::RangeIterator range(index_.get());
+    range.Seek(unsorted_[k]);
+    S2CellIndex::ContentsIterator contents(index_.get());
+    for (contents.StartUnion(range); !contents.done(); contents.Next()) answers_.labels.at(end++) = contents.label();
+    answers_.ends[k] = end;
+  }
+  return end;
+}
+
+// Points that rise: the iterators are kept, and the next range is tried before one is looked for.
+uint64_t S2Side::LabelRising() {
+  size_t end = 0;
+  S2CellIndex::RangeIterator range(index_.get());
+  S2CellIndex::ContentsIterator contents(index_.get());
+  range.Begin();
+  for (size_t k = 0; k < rising_.size(); ++k) {
+    if (rising_[k] >= range.limit_id()) {
+      range.Next();
+      if (rising_[k] >= range.limit_id()) range.Seek(rising_[k]);
+    }
+    // (else what was given for the point before would be left out)
+    contents.Clear();
+    for (contents.StartUnion(range); !contents.done(); contents.Next()) answers_.labels.at(end++) = contents.label();
+    answers_.ends[k] = end;
+  }
+  return end;
 }
 
 uint64_t S2Side::OverIds(uint32_t order) {
@@ -265,7 +303,9 @@ uint64_t S2Side::OverUnions(uint32_t order) const {
 
 void S2Side::List(uint32_t order) {
   switch (order) {
-    case kPointChain: return ListChains();
+    case kPointChain: return ListChains(leaves_, leaves_.size());
+    case kPointsUnsorted: return ListChains(unsorted_, kListedPoints);
+    case kPointsRising: return ListChains(rising_, kListedPoints);
     case kPointVisit: return ListMet(points_);
     case kFewVisit: return ListMet(few_);
     case kFewLabels: return ListLabels(few_);
@@ -287,12 +327,12 @@ void S2Side::List(uint32_t order) {
   }
 }
 
-void S2Side::ListChains() {
-  for (S2CellId leaf : leaves_) {
+void S2Side::ListChains(const std::vector<S2CellId>& leaves, size_t most) {
+  for (size_t k = 0; k < std::min(most, leaves.size()); ++k) {
     size_t head = answers_.list.size();
     answers_.list.push_back(0);
     S2CellIndex::RangeIterator range(index_.get());
-    range.Seek(leaf);
+    range.Seek(leaves[k]);
     S2CellIndex::ContentsIterator contents(index_.get());
     for (contents.StartUnion(range); !contents.done(); contents.Next()) {
       ++answers_.list[head];

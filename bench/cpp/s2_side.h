@@ -40,13 +40,15 @@ class S2Side {
   uint64_t ChainSums() const;
   uint64_t VisitSums(const std::vector<S2CellUnion>& targets) const;
   uint64_t LabelSums(const std::vector<S2CellUnion>& targets) const;
+  uint64_t LabelUnsorted();
+  uint64_t LabelRising();
   uint64_t PrintTokens();
   uint64_t PrintPaths();
   void ReadTokens();
   void Squares();
   void CellsOfSquares();
   void Neighbors(const std::vector<S2CellId>& cells);
-  void ListChains();
+  void ListChains(const std::vector<S2CellId>& leaves, size_t most);
   void ListMet(const std::vector<S2CellUnion>& targets);
   void ListLabels(const std::vector<S2CellUnion>& targets);
 
@@ -55,7 +57,7 @@ class S2Side {
   std::vector<S2CellIndex::LabelledCell> pairs_, edited_;
   std::vector<S2CellUnion> points_, few_, many_, few_apart_, many_apart_, shapes_;
   std::vector<std::vector<S2CellId>> shape_cells_;
-  std::vector<S2CellId> leaves_, mixed_, rim_;
+  std::vector<S2CellId> leaves_, mixed_, rim_, unsorted_, rising_;
   std::vector<std::string> tokens_;
   std::vector<Square> squares_;
   Answers answers_;

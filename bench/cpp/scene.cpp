@@ -10,6 +10,7 @@
 namespace {
 
 constexpr size_t kPoints = 20000;
+constexpr size_t kPointsAtOnce = 1000000;
 constexpr size_t kFewTargets = 4000;
 constexpr size_t kManyTargets = 100;
 constexpr size_t kShapes = 20;
@@ -121,6 +122,12 @@ void AddSingleCells(Scene& scene, Random& random) {
   }
 }
 
+void AddPointsAtOnce(Scene& scene, Random& random) {
+  for (size_t k = 0; k < kPointsAtOnce; ++k) scene.points.push_back(random.Within(AnyZone(scene, random), 30).id());
+  scene.rising = scene.points;
+  std::sort(scene.rising.begin(), scene.rising.end());
+}
+
 }  // namespace
 
 Scene MakeScene(size_t pairs) {
@@ -137,5 +144,6 @@ Scene MakeScene(size_t pairs) {
   AddDump(scene);
   AddTargets(scene, random, towns);
   AddSingleCells(scene, random);
+  AddPointsAtOnce(scene, random);
   return scene;
 }

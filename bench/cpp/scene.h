@@ -21,6 +21,8 @@ struct Scene {
   std::vector<uint64_t> leaves, few, many, few_apart, many_apart, shapes;
   // Cells of all levels, many of which contain the one behind them, and cells at the rims of faces.
   std::vector<uint64_t> mixed, rim;
+  // Leaves that are asked for all at once, in no order, and the same as they rise.
+  std::vector<uint64_t> points, rising;
 };
 
 // A scene of so many pairs.

@@ -19,15 +19,22 @@ bool HoldSession(const Scene& scene) {
                       scene.leaves.size(), scene.few.data(), scene.few.size(), scene.many.data(), scene.many.size(),
                       scene.few_apart.data(), scene.few_apart.size(), scene.many_apart.data(), scene.many_apart.size(),
                       scene.shapes.data(), scene.shapes.size(), scene.mixed.data(), scene.mixed.size(), scene.rim.data(),
-                      scene.rim.size());
+                      scene.rim.size(), scene.points.data(), scene.points.size(), scene.rising.data(), scene.rising.size());
 }
 
 }  // namespace
 
 uint32_t bench_next(uint64_t value, const uint64_t* slots, size_t slot_count, const Four* fours, size_t four_count, const Text* texts,
-                    size_t text_count, const uint64_t* list, size_t list_count) {
+                    size_t text_count, const uint64_t* list, size_t list_count, const size_t* ends, size_t end_count,
+                    const uint32_t* labels, size_t label_count) {
   turns->Stop();
-  return turns->Next({value, {slots, slot_count}, {fours, four_count}, {texts, text_count}, {list, list_count}});
+  return turns->Next({value,
+                      {slots, slot_count},
+                      {fours, four_count},
+                      {texts, text_count},
+                      {list, list_count},
+                      {ends, end_count},
+                      {labels, label_count}});
 }
 
 int main(int count, char** words) {

@@ -1,4 +1,4 @@
-// Writes the dump of a scene and scripts over it into a folder: texts PAIRS FOLDER.
+// Writes the dump of a scene, scripts over it and the numbers of points to be asked at once into a folder: texts PAIRS FOLDER.
 #include <cstdio>
 #include <cstdlib>
 #include <fstream>
@@ -42,5 +42,6 @@ int main(int count, char** words) {
   Write(folder + "/labels 8 apart", Script("labels", scene.few_apart, kFewCells));
   Write(folder + "/meet 500", Script("meet", scene.many, kManyCells));
   Write(folder + "/meet 500 apart", Script("meet", scene.many_apart, kManyCells));
+  Write(folder + "/points", {reinterpret_cast<const char*>(scene.points.data()), scene.points.size() * sizeof(uint64_t)});
   return 0;
 }

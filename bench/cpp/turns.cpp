@@ -44,6 +44,21 @@ bool AreSame(Slice<T> one, const std::vector<T>& other) {
   return one.count == other.size() && std::equal(other.begin(), other.end(), one.at);
 }
 
+// Whether the labels over each point are the same: there are as many, and they have the same sum. The two sides give them in orders of their
+// own.
+bool HaveSameLabels(const Shown& shown, const Answers& s2) {
+  if (!AreSame(shown.ends, s2.ends)) return false;
+  size_t start = 0;
+  for (size_t end : s2.ends) {
+    uint64_t difference = 0;
+    for (; start < end; ++start) difference += uint64_t{shown.labels.at[start]} - s2.labels[start];
+    if (difference != 0) return false;
+  }
+  return true;
+}
+
+bool IsAtOnce(uint32_t order) { return order == kPointsUnsorted || order == kPointsRising; }
+
 [[noreturn]] void Differ(const std::string& name) {
   std::fprintf(stderr, "bench: S2 and ours answer differently: %s\n", name.c_str());
   std::exit(1);
@@ -60,7 +75,8 @@ Turns::Turns(const Scene& scene, double seconds, bool counts_instructions, bool 
 
 void Turns::AddFigures(const Scene& scene, bool has_ids) {
   size_t pairs = scene.pair_cells.size(), points = scene.leaves.size(), few = scene.few.size() / kFewCells,
-         many = scene.many.size() / kManyCells, shapes = scene.shapes.size() / kShapeCells, cells = scene.mixed.size();
+         many = scene.many.size() / kManyCells, shapes = scene.shapes.size() / kShapeCells, cells = scene.mixed.size(),
+         at_once = scene.points.size();
   figures_ = {{"nothing", kNothing, 1, 0},
               {"adds and build", kBuild, pairs, 0},
               {"build of a table", kTables, pairs, 0},
@@ -68,6 +84,8 @@ void Turns::AddFigures(const Scene& scene, bool has_ids) {
               {"edit with a query", kEdit, 2 * scene.edited_cells.size(), 0},
               {"point, chain_at", kPointChain, points, 2},
               {"point, visit", kPointVisit, points, 2},
+              {"points at once, unsorted", kPointsUnsorted, at_once, 2},
+              {"points at once, rising", kPointsRising, at_once, 2},
               {"8 cells, visit", kFewVisit, few, 2},
               {"8 cells, labels", kFewLabels, few, 1},
               {"8 cells apart, visit", kFewApartVisit, few, 2},
@@ -164,5 +182,6 @@ void Turns::Compare(const Shown& shown) const {
   bool has_slots = figure.order >= kTokenRead && figure.order < kUnion;
   bool same = shown.value == s2.value;
   if (has_slots) same = same && AreSame(shown.slots, s2.slots) && AreSame(shown.fours, s2.fours) && AreSame(shown.texts, s2.texts);
+  if (IsAtOnce(figure.order)) same = same && HaveSameLabels(shown, s2);
   if (!same) Differ(figure.name);
 }
