@@ -1,19 +1,23 @@
 """Many leaves and targets at once by the Python package, beside single calls: answers, forms and refusals; how often the library is asked;
 threads that run meanwhile, and interrupts. tests/python_client and tests/python_frames run this."""
 import ctypes
+import faulthandler
 import random
 import signal
 import struct
 import sys
 import threading
 import time
+import types
 from array import array
 
 import plain_cells as plain
-from s2ix import Closed, Index, NoCell, NoSpan, S2ixError, batches, library, token_of
+from s2ix import Closed, Index, NoCell, NoSpan, S2ixError, batches, beside, library, token_of
 
 FIRST, SECOND, FACE, LEAF, OTHER = 0x0400000000000000, 0x0C00000000000000, 0x1000000000000000, 0x0400000000000001, 0xBFFFFFFFFFFFFFFF
-ROUNDS, LONG, INTERRUPTS = 40, 1_000_000, 30
+ROUNDS, LONG, INTERRUPTS = 40, 1_000_000, 20
+# How many seconds a check with interrupts may take, on a machine that has much else to do.
+PATIENCE = 600
 # How many labels a cell has, so that its rows want more room than there is at first.
 MANY = 3000
 # (so that threads share few leaves and targets too)
@@ -241,32 +245,30 @@ def check_calls(count):
 
 
 def check_stops(count):
-    """An interrupt while threads begin ends their work, also if Python's own Condition makes a RuntimeError of it."""
-
-    def interrupt():
-        raise KeyboardInterrupt
-
-    def interrupt_in_a_wait():
-        lock = threading.Condition()
-        with lock:
-            lock.release()
-            raise KeyboardInterrupt
-
-    submit, step = batches.ThreadPoolExecutor.submit, batches._STEP
+    """An interrupt while threads begin, just before or just after one has, ends the work of all, and none is left at work."""
+    kept, step = beside._thread, batches._STEP
     with Index() as index:
         index.add(FACE, 9)
-        for stop in (interrupt, interrupt_in_a_wait):
+        for has_begun in (False, True):
             asked = []
-            batches._STEP = 1
-            batches.ThreadPoolExecutor.submit = lambda pool, work, own, start, limit, stop=stop: stop() if start else submit(pool, work, own, start, limit)
+
+            def begin(run, given, has_begun=has_begun):
+                if has_begun or given == (0,):
+                    kept.start_new_thread(run, given)
+                if given != (0,):
+                    raise KeyboardInterrupt
+
+            batches._STEP, beside._thread = 1, types.SimpleNamespace(allocate_lock=kept.allocate_lock, start_new_thread=begin)
             try:
                 with calls_by(lambda made, *each, asked=asked: asked.append(time.sleep(0.001)) or made(*each)):
                     raised = type(index.labels_at_each([FACE + 1] * 2000, 2))
             except BaseException as refusal:  # noqa: BLE001
                 raised = type(refusal)
             finally:
-                batches._STEP, batches.ThreadPoolExecutor.submit = step, submit
-            count.expect(f"what {stop.__name__} leaves", (raised, len(asked) < 900), (KeyboardInterrupt, True))
+                batches._STEP, beside._thread = step, kept
+            many = len(asked)
+            time.sleep(0.05)
+            count.expect(f"an interrupt when a thread has begun: {has_begun}", (raised, many < 900, len(asked) - many), (KeyboardInterrupt, True, 0))
 
 
 def check_shares(count):
@@ -348,22 +350,26 @@ def check_meanwhile(count):
 
 
 def check_interrupts(count):
-    """An interrupt at any moment leaves the index as it was, and usable."""
+    """An interrupt at any moment leaves the index as it was, and usable, and holds nothing of the caller's. No thread waits for ever."""
     with Index() as index:
         index.add_all([(FIRST, 9, 1), (FACE, 3, 1)])
-        leaves, chance, outcomes = array("Q", [LEAF]) * (LONG // 4), random.Random(3), []
-        before = signal.signal(signal.SIGALRM, signal.default_int_handler)
+        chance, outcomes, before = random.Random(3), [], signal.signal(signal.SIGALRM, signal.default_int_handler)
+        faulthandler.dump_traceback_later(PATIENCE, exit=True)
         try:
-            for number in range(INTERRUPTS):
-                threads, start = 1 + 2 * (number % 2), time.monotonic()
-                answer = index.labels_at_each(leaves, threads)
-                took = time.monotonic() - start
-                outcomes.append(interrupted(lambda threads=threads: index.labels_at_each(leaves, threads), chance.random() * took + 1e-5))
-                same = outcomes[-1] is None or list(map(memoryview, outcomes[-1])) == list(map(memoryview, answer))
-                count.expect(f"interrupt {number}", (same, index.add(SECOND, 1), index.labels(SECOND), index.undo()), (True, 1, [1, 3], 1))
+            for many, times in ((LONG // 4, INTERRUPTS), (300, 20 * INTERRUPTS)):
+                leaves = array("Q", [LEAF]) * many
+                for number in range(times):
+                    threads, start = 1 + 2 * (number % 2), time.monotonic()
+                    answer = listed(index.labels_at_each(leaves, threads))
+                    took = time.monotonic() - start
+                    outcomes.append(interrupted(lambda threads=threads, leaves=leaves: index.labels_at_each(leaves, threads), chance.random() * took + 1e-5))
+                    count.expect(f"interrupt {number} of {many} leaves", outcomes[-1] is None or listed(outcomes[-1]) == answer, True)
+                    count.expect("the index afterwards", (index.add(SECOND, 1), index.labels(SECOND), index.undo()), (1, [1, 3], 1))
+                    count.expect("an array that grows afterwards", told(leaves.append, LEAF), None)
         finally:
+            faulthandler.cancel_dump_traceback_later()
             signal.signal(signal.SIGALRM, before)
-        count.expect("calls that were interrupted", None in outcomes, True)
+        count.expect("calls that were interrupted", outcomes.count(None) > INTERRUPTS, True)
 
 
 def interrupted(call, seconds):
@@ -372,6 +378,7 @@ def interrupted(call, seconds):
         signal.setitimer(signal.ITIMER_REAL, seconds)
         answer = call()
         signal.setitimer(signal.ITIMER_REAL, 0)
-        return answer
+        # (a signal that came just before is still to be handled)
+        return [answer for _ in range(100)][0]
     except KeyboardInterrupt:
         return None

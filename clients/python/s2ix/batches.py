@@ -5,14 +5,13 @@ import ctypes
 import functools
 import importlib
 import operator
-import threading
 from array import array
-from concurrent.futures import ThreadPoolExecutor
 from ctypes import addressof
 from itertools import accumulate
-from typing import TYPE_CHECKING, Any, Callable, Iterable, NamedTuple, Optional, Protocol
+from typing import TYPE_CHECKING, Any, Callable, Iterable, NamedTuple, Optional, Protocol, TypeVar
 
 from s2ix import library
+from s2ix.beside import side_by_side
 from s2ix.given import MOST_U64, NO_WORD, Bounds, Cells, Targets, cells_copied, expect_plain, wrong_cell
 from s2ix.refusals import REFUSALS, NoCell, NoRoom, NoSpan, S2ixError, named, placed
 from s2ix.rows import HALF, PACKED, WORD
@@ -20,6 +19,8 @@ from s2ix.tokens import no_cell
 
 if TYPE_CHECKING:
     from s2ix.index import Index
+
+_Made = TypeVar("_Made")
 
 # The first call has room for so many answers a leaf or target,
 _EACH = 4
@@ -220,7 +221,7 @@ class _Batch:
         self._call, self._asked, self._kind = call, asked, kind
         numpy, self._many = _numpy(), len(asked)
         self._ends: Any = array("q", bytes(WORD * self._many)) if numpy is None else numpy.zeros(self._many, numpy.int64)
-        self._is_over = threading.Event()
+        self._is_over = False
 
     def found(self, index: Index, threads: int) -> tuple[Any, Any]:
         """All are cut among at most so many threads, which see the index as it is now: each asks a copy of its own."""
@@ -233,25 +234,22 @@ class _Batch:
         copies = [still, *(still.copy() for _ in spans[1:])]
         if len(spans) == 1:
             return self._joined(spans, [self._part(still, *spans[0])], map)
-        with ThreadPoolExecutor(len(spans)) as pool:
-            try:
-                jobs = [pool.submit(self._part, copy, *span) for copy, span in zip(copies, spans)]
-                # (the first that is refused decides, and those after it are left)
-                return self._joined(spans, [job.result() for job in jobs], pool.map)
-            except BaseException as raised:
-                self._is_over.set()
-                # (an interrupt in the midst of a wait may leave Python's own Condition as a RuntimeError)
-                if isinstance(raised, RuntimeError) and isinstance(raised.__context__, KeyboardInterrupt):
-                    raise raised.__context__ from None
-                raise
+        return self._joined(spans, self._beside(self._part, copies, *zip(*spans)), self._beside)
+
+    def _beside(self, work: Callable[..., _Made], *given: Iterable[object]) -> list[_Made]:
+        """As `map`, but with a thread for each. If one is refused, those that are left end."""
+        return side_by_side(work, list(zip(*given)), self._leave)
+
+    def _leave(self) -> None:
+        self._is_over = True
 
     def _part(self, index: Index, start: int, stop: int) -> list[memoryview]:
         """What is found for those from one place up to another, in parts. Their ends are counted from `start` on.
 
         The index is a copy that no other thread uses, and this one closes it: an interrupt may end the other threads' work first."""
-        parts, before, place, room = [], 0, start, _room_of(_EACH * (stop - start))
+        parts, before, place, room = [], 0, start, _room_of(_EACH * min(stop - start, _STEP))
         with index:
-            while place < stop and not self._is_over.is_set():
+            while place < stop and not self._is_over:
                 ends = memoryview(self._ends)[place : min(stop, place + _STEP)]
                 items = _memory(room * self._kind.size)
                 many = self._ask(index, place, ends, items)
@@ -260,7 +258,7 @@ class _Batch:
                 _add(ends[:many], before)
                 before, place = before + used, place + many
                 # (an eighth more than as many each as there are so far)
-                wanted = (stop - place) * before * 9 // (8 * max(place - start, 1))
+                wanted = min(stop - place, _STEP) * before * 9 // (8 * max(place - start, 1))
                 if not many:
                     # (the next one alone has more than there was room for)
                     wanted = 4 * room
@@ -275,12 +273,13 @@ class _Batch:
         numpy, parts = _numpy(), [part for parts in found for part in parts]
         whole = None if numpy is None or _is_whole(parts) else numpy.empty(starts[-1], "u1")
 
-        def put(span: tuple[int, int], start: int, parts: list[memoryview]) -> None:
+        def put(span: tuple[int, int], start: int, parts: list[memoryview]) -> bool:
             _add(memoryview(self._ends)[slice(*span)], start // self._kind.size)
             if whole is not None:
                 for part in parts:
                     whole[start : start + len(part)] = numpy.asarray(part)
                     start += len(part)
+            return True
 
         for _ in run(put, spans, starts, found):
             pass
