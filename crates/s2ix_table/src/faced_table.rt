@@ -32,7 +32,7 @@ use crate::counting::{Layout, begins_of, uncounted};
 use crate::entries_on::entries_on;
 use crate::face_after::Face;
 use crate::heavy_pairs::{HeavyPairs, all_are_chunks, set_face};
-use crate::looking::{look_along, look_apart, rise_closely};
+use crate::looking::MOST;
 use crate::new_parts::{AllFaces, NewFace, NewParts, put_between};
 use crate::offset::{Offset, offset_by};
 use crate::pair_reader::PairReader;
@@ -46,7 +46,7 @@ use s2ix_bag_changes::{Bag, Change};
 use s2ix_bag_lists::HeldParts;
 use s2ix_bag_pairs::Held;
 use s2ix_table_heavy::HeavyPlace;
-use s2ix_table_queries::{LeafHint, RangeTable, Stretch};
+use s2ix_table_queries::{LeafContents, LeafHint, RangeTable, Stretch};
 use s2ix_table_spans::SpanTable;
 use s2ix_table_walk::{LeafWindow, RangeRow, Window};
 use std::alloc::Global;
@@ -213,24 +213,19 @@ impl RangeTable for FacedTable {
         self.first_found(leaf, part, found)
     }
 
-    // It gallops along leaves that rise closely, and takes steps of the searches for others side by side.
+    // It looks for many side by side, but not for leaves that rise closely: there it is quicker to go on from the last one.
     #[inline]
-    fn look_for(&self, leaves: &[CellId], hints: &mut [LeafHint]) {
-        let leaves = &leaves[..leaves.len().min(hints.len())];
-        if rise_closely(self, leaves) {
-            look_along(self, leaves, hints);
-        } else {
-            look_apart(self, leaves, hints);
+    fn look_for(&self, leaves: &[CellId], hints: &mut [LeafHint]) -> bool {
+        let looks = leaves.len() <= hints.len().min(MOST) && !self.rise_closely(leaves);
+        if looks {
+            self.look_apart(leaves, &mut hints[..leaves.len()]);
         }
+        looks
     }
 
-    #[inline]
-    fn first_near(&self, leaf: CellId, hint: LeafHint) -> Option<FacedPlace> {
-        if self.has_at(leaf, hint) {
-            self.first_found(leaf, hint.part, hint.range)
-        } else {
-            self.first_over(leaf)
-        }
+    #[inline(always)]
+    fn contents_near(&self, leaf: CellId, hint: LeafHint) -> LeafContents<'_, FacedPlace> {
+        self.contents_in(self.found_near(leaf, hint))
     }
 }
 
@@ -752,7 +747,7 @@ impl FacedTable {
 
     // The place of the innermost heavy pair over a part.
     #[inline]
-    fn over(&self, part: usize) -> Option<FacedPlace>
+    pub(crate) fn over(&self, part: usize) -> Option<FacedPlace>
         requires { part < length (spans_of self.now.parts.items) }
         ensures { LeadsTo (faced_chain (spans_of self.now.parts.items) self.now.heavy)
             result

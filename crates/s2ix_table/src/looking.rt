@@ -1,19 +1,21 @@
 //! Looking for the ranges that have leaves, one by one or many at once.
-ghost use Rattle.std.specs.Prelude.{◌≡◌, ◌≤◌, IsTrue, length};
+ghost use Rattle.std.specs.Prelude.{◌≡◌, ◌≤◌, ◌%◌, length};
 ghost use Rattle.s2id_core.specs.CellId.{level_of, raw_of};
 ghost use Rattle.s2ix_table_walk.specs.Contents.{contents_at};
 ghost use Rattle.s2ix_table_walk.specs.Places.{LeadsTo};
 ghost use Rattle.s2ix_table.specs.PartPlaces.{faced_chain};
 ghost use Rattle.s2ix_table_spans.specs.SpanTable.{IsSpanTable};
 ghost use Rattle.s2ix_table_spans.specs.Starts.{IsLastStart};
-ghost use Rattle.s2ix_table_walk.specs.Table.{IsFound};
+ghost use Rattle.s2ix_table_walk.specs.Table.{IsFound, range_at};
+ghost use Rattle.s2ix_table_queries.specs.LeafContents.{AreContents};
 ghost use Rattle.s2ix_table.specs.FaceSpans.{spans_of, table_of};
+ghost use Rattle.s2ix_table.specs.Offsets.{HasRange};
 
 use crate::faced_table::FacedTable;
 use crate::part_place::FacedPlace;
 use crate::starts::start_by;
 use s2id_core::CellId;
-use s2ix_table_queries::{LeafHint, RangeTable};
+use s2ix_table_queries::{LeafContents, LeafHint, RangeTable};
 use s2ix_table_spans::{SpanTable, is_last_start, step_ahead};
 
 // The lists of more parts than this are out of the processor's cache.
@@ -21,6 +23,9 @@ const MANY_PARTS: usize = 64;
 
 // How many neighbouring parts are a few.
 const NEAR_PARTS: usize = 8;
+
+// At most so many searches go on side by side: `at_each` asks for as many at once.
+pub(crate) const MOST: usize = 64;
 
 impl FacedTable {
     // The table of a part, or that of the last part if there is none of this number.
@@ -31,12 +36,17 @@ impl FacedTable {
         self.span(part.min(self.part_count() - 1))
     }
 
-    // A hint whose part and range are none past the last.
+    // The same hint with part and range no greater than the last ones, and with the place of that range's innermost pair in `seen`.
     #[inline]
-    fn within(&self, hint: LeafHint) -> LeafHint {
+    fn with_first(&self, hint: LeafHint) -> LeafHint {
         let part = hint.part.min(self.part_count() - 1);
-        let range = hint.range.min(self.span_by(part).range_count() - 1);
-        LeafHint { part, range }
+        let span = self.span_by(part);
+        let range = hint.range.min(span.range_count() - 1);
+        LeafHint {
+            part,
+            range,
+            seen: u64::from(span.first_number(range)),
+        }
     }
 
     // The part that has a leaf. O(log p).
@@ -74,23 +84,8 @@ impl FacedTable {
         self.first_at(part, found)
     }
 
-    // Whether a hint says where a leaf is.
-    #[inline]
-    pub(crate) fn has_at(&self, leaf: CellId, hint: LeafHint) -> bool
-        ensures part { IsTrue result → IsLastStart self.now.starts.items (raw_of leaf) hint.part }
-        ensures found { IsTrue result → IsFound (table_of (spans_of self.now.parts.items) hint.part).ranges hint.range (raw_of leaf) }
-        ensures there { IsLastStart self.now.starts.items (raw_of leaf) hint.part
-            → IsFound (table_of (spans_of self.now.parts.items) hint.part).ranges hint.range (raw_of leaf)
-            → IsTrue result }
-    {
-        if !is_last_start(&self.starts, leaf.raw(), hint.part) {
-            return false;
-        }
-        self.span(hint.part).has_at(leaf, hint.range)
-    }
-
-    // The part that has a leaf: the hint with its range, if it has this part, else another one without a range.
-    #[inline]
+    // Returns the hint itself if its part has the leaf, else one with the right part and no range.
+    #[inline(always)]
     fn part_near(&self, leaf: CellId, near: LeafHint) -> LeafHint
         ensures { IsLastStart self.now.starts.items (raw_of leaf) result.part }
     {
@@ -99,27 +94,101 @@ impl FacedTable {
         }
         LeafHint {
             part: self.part_with(leaf),
-            range: usize::MAX,
+            ..LeafHint::none()
         }
     }
 
     // Where a leaf is, quicker if the hint has its part, and quickest if it has the leaf's range or one soon before it.
-    #[inline]
-    fn found_near(&self, leaf: CellId, near: LeafHint) -> LeafHint {
+    #[inline(always)]
+    pub(crate) fn found_near(&self, leaf: CellId, near: LeafHint) -> LeafHint
+        ensures part { IsLastStart self.now.starts.items (raw_of leaf) result.part }
+        ensures range { IsFound (table_of (spans_of self.now.parts.items) result.part).ranges result.range (raw_of leaf) }
+    {
         let hint = self.part_near(leaf, near);
         let range = self.span(hint.part).find_near(leaf, hint.range);
         LeafHint { range, ..hint }
     }
-}
 
-// Whether leaves rise, and lie in a few neighbouring parts. No clause says so: it only chooses the quicker way to look for them.
-pub(crate) fn rise_closely(table: &FacedTable, leaves: &[CellId]) -> bool {
-    match (leaves.first(), leaves.last()) {
-        (Some(first), Some(last)) => {
-            let first = table.part_with(*first);
-            table.part_with(*last).wrapping_sub(first) < NEAR_PARTS && are_rising(leaves)
+    // What lies over the leaves of a part's range.
+    #[inline(always)]
+    pub(crate) fn contents_in(&self, hint: LeafHint) -> LeafContents<'_, FacedPlace>
+        requires { HasRange (spans_of self.now.parts.items) hint.part hint.range }
+        ensures contents { AreContents (faced_chain (spans_of self.now.parts.items) self.now.heavy) (⟦<FacedTable as RangeTable>⟧.pairs self.now)
+            result.start result.limit result.held.now result.outer.now result.first result.behind }
+        ensures start { result.start ≡ (range_at (table_of (spans_of self.now.parts.items) hint.part).ranges hint.range).start }
+        ensures limit { result.limit ≡ (range_at (table_of (spans_of self.now.parts.items) hint.part).ranges hint.range).limit }
+    {
+        let span = self.span(hint.part);
+        let row = span.range(hint.range);
+        LeafContents {
+            start: row.start,
+            limit: row.limit,
+            held: span.held(),
+            outer: span.outers(),
+            first: span.first_number(hint.range),
+            behind: self.over(hint.part),
+            hint,
         }
-        _ => true,
+    }
+
+    // Whether leaves rise, and lie in a few neighbouring parts. No clause says so: it only chooses the quicker way to look for them.
+    pub(crate) fn rise_closely(&self, leaves: &[CellId]) -> bool {
+        match (leaves.first(), leaves.last()) {
+            (Some(first), Some(last)) => {
+                let first = self.part_with(*first);
+                self.part_with(*last).wrapping_sub(first) < NEAR_PARTS && are_rising(leaves)
+            }
+            _ => true,
+        }
+    }
+
+    // Looks for leaves by searches that go on side by side, each a step in turn: first among the starts of the parts, then in the parts. Then it
+    // reads what each search leads to, so that this is in the processor's cache.
+    pub(crate) fn look_apart(&self, leaves: &[CellId], hints: &mut [LeafHint])
+        requires many { length leaves.now ≤ 64 }
+        requires room { length leaves.now ≤ length hints.old }
+        ensures { length hints.new ≡ length hints.old }
+    {
+        for hint in hints.iter_mut() {
+            *hint = LeafHint {
+                part: 0,
+                range: 0,
+                seen: 0,
+            };
+        }
+        let mut digit = digits_below(self.part_count());
+        while digit > 0 {
+            digit -= 2;
+            self.step_among_parts(leaves, digit, hints);
+        }
+        let mut lists: [&[u64]; MOST] = [&[]; MOST];
+        let mut most = 0;
+        for k in 0..leaves.len() {
+            lists[k] = self.span_by(hints[k].part).starts();
+            most = most.max(lists[k].len());
+        }
+        let mut digit = digits_below(most);
+        while digit > 0 {
+            digit -= 2;
+            step_in_parts(&lists, leaves, digit, hints);
+        }
+        for hint in hints.iter_mut() {
+            *hint = self.with_first(*hint);
+        }
+        for hint in hints.iter_mut() {
+            hint.seen = self.span_by(hint.part).touch(hint.seen);
+        }
+    }
+
+    // A step of each search for a part.
+    #[inline(always)]
+    fn step_among_parts(&self, leaves: &[CellId], digit: u32, hints: &mut [LeafHint])
+        requires { length leaves.now ≤ length hints.old }
+        ensures { length hints.new ≡ length hints.old }
+    {
+        for (k, leaf) in leaves.iter().enumerate() {
+            hints[k].part = step_ahead(&self.starts, leaf.raw(), hints[k].part, digit);
+        }
     }
 }
 
@@ -135,75 +204,22 @@ fn are_rising(leaves: &[CellId]) -> bool {
     true
 }
 
-// Looks for leaves one after the other, each from where the last one was found.
-pub(crate) fn look_along(table: &FacedTable, leaves: &[CellId], hints: &mut [LeafHint])
-    requires { length leaves.now ≤ length hints.old }
-    ensures { length hints.new ≡ length hints.old }
-{
-    let mut hint = LeafHint::none();
-    for (k, leaf) in leaves.iter().enumerate() {
-        hint = table.found_near(*leaf, hint);
-        hints[k] = hint;
-    }
-}
-
-// Looks for leaves by searches that go on side by side, each a step in turn: first among the starts of the parts, then in the parts.
-pub(crate) fn look_apart(table: &FacedTable, leaves: &[CellId], hints: &mut [LeafHint])
-    requires { length leaves.now ≤ length hints.old }
-    ensures { length hints.new ≡ length hints.old }
-{
-    for hint in hints.iter_mut() {
-        *hint = LeafHint { part: 0, range: 0 };
-    }
-    let mut step = first_step(table.part_count());
-    while step > 0 {
-        step_among_parts(table, leaves, step, hints);
-        step /= 2;
-    }
-    let mut step = first_step(most_ranges(table, hints));
-    while step > 0 {
-        step_in_parts(table, leaves, step, hints);
-        step /= 2;
-    }
-    for hint in hints.iter_mut() {
-        *hint = table.within(*hint);
-    }
-}
-
-// A step of each search for a part.
+// A step of each search for a range in a part, by the list of where the part's ranges begin.
 #[inline(always)]
-fn step_among_parts(table: &FacedTable, leaves: &[CellId], step: usize, hints: &mut [LeafHint])
-    requires { length leaves.now ≤ length hints.old }
+fn step_in_parts(lists: &[&[u64]; MOST], leaves: &[CellId], digit: u32, hints: &mut [LeafHint])
+    requires many { length leaves.now ≤ 64 }
+    requires room { length leaves.now ≤ length hints.old }
     ensures { length hints.new ≡ length hints.old }
 {
     for (k, leaf) in leaves.iter().enumerate() {
-        hints[k].part = step_ahead(&table.starts, leaf.raw(), hints[k].part, step);
+        hints[k].range = step_ahead(lists[k], leaf.raw(), hints[k].range, digit);
     }
 }
 
-// The most ranges that one of the parts has.
-fn most_ranges(table: &FacedTable, hints: &[LeafHint]) -> usize {
-    let mut most = 0;
-    for hint in hints {
-        most = most.max(table.span_by(hint.part).range_count());
-    }
-    most
-}
-
-// A step of each search for a range in a part.
-#[inline(always)]
-fn step_in_parts(table: &FacedTable, leaves: &[CellId], step: usize, hints: &mut [LeafHint])
-    requires { length leaves.now ≤ length hints.old }
-    ensures { length hints.new ≡ length hints.old }
+// How many binary digits the last of so many places has, rounded up to an even number.
+fn digits_below(places: usize) -> u32
+    ensures { result % 2 ≡ 0 }
 {
-    for (k, leaf) in leaves.iter().enumerate() {
-        let starts = table.span_by(hints[k].part).starts();
-        hints[k].range = step_ahead(starts, leaf.raw(), hints[k].range, step);
-    }
-}
-
-// The first of the steps, powers of two down to 1, that lead from the first of so many places to any other.
-fn first_step(places: usize) -> usize {
     let digits = usize::BITS - places.saturating_sub(1).leading_zeros();
-    if digits == 0 { 0 } else { 1 << (digits - 1) }
+    digits.div_ceil(2) * 2
 }

@@ -25,11 +25,13 @@ leaf_known n leaf is = let from = leaf_from (cell_numbered n) leaf is in (from.0
 
 -- ---- the leaves of a batch
 
-pub leaf_at : (numbers : List ℕ) (from : ℕ) (leaves : List CellId) (many k : ℕ) (leaf : CellId) → IsBatchAt numbers from leaves many → k < many
-    → leaf ≡ get_or leaves k leaf → leaf_in numbers (from + k) ≡ Some leaf
-leaf_at numbers from leaves many k leaf block less is =
+pub leaf_at : (numbers : List ℕ) (from : ℕ) (leaves : List CellId) (many k n : ℕ) (leaf : CellId) → IsBatchAt numbers from leaves many → k < many
+    → n ≡ from + k → leaf ≡ get_or leaves k leaf → (leaf_in numbers n ≡ Some leaf) × (n < length numbers)
+leaf_at numbers from leaves many k n leaf block less at is =
     let listed = block.listed in
-    sym (block.each k less) ∙ slice_get_read leaves (length leaves) k leaf refl (omega arith) is
+    let within = block.within in
+    let there = sym (block.each k less) ∙ slice_get_read leaves (length leaves) k leaf refl (omega arith) is in
+    (subst (λ m. leaf_in numbers m ≡ Some leaf) (sym at) there, omega (arith, at))
 
 -- ---- one more leaf
 

@@ -4,3 +4,4 @@ pub mod Stretching
 pub mod Building
 pub mod Numbers
 pub mod LeafByLeaf
+pub mod Linking

@@ -11,4 +11,5 @@ pub use Rattle.s2ix_table_walk.specs.Stretches
 pub mod Iterators
 pub mod Copied
 pub mod Leaf
+pub mod LeafContents
 pub mod ManyLeaves

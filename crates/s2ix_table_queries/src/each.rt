@@ -1,14 +1,20 @@
 //! What lies over each of many leaves.
 ghost use Rattle.std.specs.Prelude.{◌≡◌, ◌≤◌, ◌<◌, ◌+◌, ◌++◌, ℕ, None, Some, IfSome, length, map, take};
+ghost use Rattle.s2id_core.specs.CellId.{level_of, raw_of};
+ghost use Rattle.s2ix_bag_pairs.specs.Collection.{Collection};
 ghost use Rattle.s2ix_table_walk.specs.Contents.{contents_at};
-ghost use Rattle.s2ix_table_walk.specs.Places.{IsPlace, LeadsTo, from_place};
+ghost use Rattle.s2ix_table_walk.specs.Links.{AreLinked};
+ghost use Rattle.s2ix_table_walk.specs.Places.{IsPlace, from_place};
+ghost use Rattle.s2ix_table_queries.specs.LeafContents.{AreContents};
 ghost use Rattle.s2ix_table_queries.specs.ManyLeaves.{AreAnswered, IsBatchAt, IsNoLeaf, LacksRoom, leaf_in, over_first};
 
 use crate::hint::LeafHint;
 use crate::leaf::leaf_of;
+use crate::leaf_contents::LeafContents;
 use crate::of_held::OfHeld;
 use crate::table::RangeTable;
 use s2id_core::CellId;
+use s2ix_bag_lists::FlatHeld;
 
 /// How far [`at_each`] came.
 #[derive(Clone, Copy, Debug, PartialEq, Eq)]
@@ -28,6 +34,41 @@ pub enum EachStop {
     NoLeaf,
     /// There is no room for what lies over the next leaf, or for its end.
     NoRoom,
+}
+
+// Puts the pairs of a chain that is kept in lists into a buffer, from a place of it on; returns where they end, or `None` if there is no room
+// for them all.
+#[inline(always)]
+fn put_linked<R: OfHeld>(
+    held: &[FlatHeld],
+    outer: &[u32],
+    first: u32,
+    out: &mut [R],
+    from: usize,
+) -> Option<usize>
+    requires lists { length outer.now ≡ length held.now }
+    requires room { from ≤ length out.old }
+    ensures same { length out.new ≡ length out.old }
+    ensures before { take from out.new ≡ take from out.old }
+    ensures end { (chain : ℕ → Collection) → AreLinked held.now outer.now chain
+        → IfSome result (λ end. end ≡ from + length (chain first)) }
+    ensures within { IfSome result (λ end. end ≤ length out.old) }
+    ensures put { (chain : ℕ → Collection) → AreLinked held.now outer.now chain
+        → IfSome result (λ end. take end out.new ≡ take from out.old ++ map R.of (chain first)) }
+    ensures short { (chain : ℕ → Collection) → AreLinked held.now outer.now chain
+        → result ≡ None → length out.old < from + length (chain first) }
+{
+    let mut at = from;
+    let mut place = first as usize;
+    while place < held.len() {
+        if at >= out.len() {
+            return None;
+        }
+        out[at] = R::of_held(held[place].held());
+        at += 1;
+        place = outer[place] as usize;
+    }
+    Some(at)
 }
 
 // Puts the pairs of a chain into a buffer, from a place of it on; returns where they end, or `None` if there is no room for them all.
@@ -58,6 +99,32 @@ fn put_chain<T: RangeTable, R: OfHeld>(
         next = table.outer(place);
     }
     Some(at)
+}
+
+// Puts what lies over a leaf into a buffer, from a place of it on; returns where it ends, or `None` if there is no room for it all.
+#[inline(always)]
+fn put_contents<T: RangeTable, R: OfHeld>(
+    table: &T,
+    contents: &LeafContents<'_, T::Place>,
+    leaf: CellId,
+    out: &mut [R],
+    from: usize,
+) -> Option<usize>
+    requires contents { AreContents (T.chain table.now) (T.pairs table.now) contents.now.start contents.now.limit
+        contents.now.held.now contents.now.outer.now contents.now.first contents.now.behind }
+    requires leaf { level_of leaf ≡ 30 }
+    requires from { contents.now.start ≤ raw_of leaf }
+    requires limit { raw_of leaf < contents.now.limit }
+    requires room { from ≤ length out.old }
+    ensures same { length out.new ≡ length out.old }
+    ensures before { take from out.new ≡ take from out.old }
+    ensures end { IfSome result (λ end. end ≡ from + length (contents_at (raw_of leaf) (T.pairs table.now))) }
+    ensures within { IfSome result (λ end. end ≤ length out.old) }
+    ensures put { IfSome result (λ end. take end out.new ≡ take from out.old ++ map R.of (contents_at (raw_of leaf) (T.pairs table.now))) }
+    ensures short { result ≡ None → length out.old < from + length (contents_at (raw_of leaf) (T.pairs table.now)) }
+{
+    let at = put_linked(contents.held, contents.outer, contents.first, out, from)?;
+    put_chain(table, contents.behind, out, at)
 }
 
 // How many leaves a table looks for at once.
@@ -99,12 +166,14 @@ struct Put {
     count: usize,
 }
 
-// Puts what lies over the next leaves of a list behind what is put for those that are answered, as long as there is room.
+// Puts what lies over the next leaves of a list behind what is put for those that are answered, as long as there is room. `contents` is what
+// `contents_near` gave last; it often lies over the next leaf too.
 #[inline]
-fn put_batch<T: RangeTable, R: OfHeld>(
-    table: &T,
+fn put_batch<'a, T: RangeTable, R: OfHeld>(
+    table: &'a T,
     leaves: &[u64],
     batch: &Batch,
+    contents: &mut LeafContents<'a, T::Place>,
     before: Put,
     ends: &mut [usize],
     out: &mut [R],
@@ -113,6 +182,10 @@ fn put_batch<T: RangeTable, R: OfHeld>(
     requires count { before.count ≡ length (over_first before.answered leaves.now (T.pairs table.now)) }
     requires room { before.count ≤ length out.old }
     requires batch { IsBatchAt leaves.now before.answered batch.now.leaves batch.now.many }
+    requires contents { AreContents (T.chain table.now) (T.pairs table.now) contents.old.start contents.old.limit
+        contents.old.held.now contents.old.outer.now contents.old.first contents.old.behind }
+    ensures contents { AreContents (T.chain table.now) (T.pairs table.now) contents.new.start contents.new.limit
+        contents.new.held.now contents.new.outer.now contents.new.first contents.new.behind }
     ensures same { length out.new ≡ length out.old }
     ensures listed { length ends.new ≡ length ends.old }
     ensures answered { AreAnswered R.of (T.pairs table.now) leaves.now result.answered ends.new out.new }
@@ -122,14 +195,18 @@ fn put_batch<T: RangeTable, R: OfHeld>(
         → LacksRoom (T.pairs table.now) leaves.now result.answered ends.old out.old }
 {
     let mut hints = [LeafHint::none(); MOST];
-    table.look_for(&batch.leaves[..batch.many], &mut hints);
+    let has_looked = table.look_for(&batch.leaves[..batch.many], &mut hints);
     let mut put = before;
     for k in 0..batch.many {
         if put.answered >= ends.len() {
             return put;
         }
-        let first = table.first_near(batch.leaves[k], hints[k]);
-        let Some(end) = put_chain(table, first, out, put.count) else {
+        let leaf = batch.leaves[k];
+        if !contents.is_over(leaf) {
+            let hint = if has_looked { hints[k] } else { contents.hint };
+            *contents = table.contents_near(leaf, hint);
+        }
+        let Some(end) = put_contents(table, contents, leaf, out, put.count) else {
             return put;
         };
         ends[put.answered] = end;
@@ -157,6 +234,7 @@ pub fn at_each<T: RangeTable, R: OfHeld>(
     ensures no_leaf { result.stop ≡ EachStop.NoLeaf → IsNoLeaf leaves.now result.answered }
     ensures no_room { result.stop ≡ EachStop.NoRoom → LacksRoom (T.pairs table.now) leaves.now result.answered ends.old out.old }
 {
+    let mut contents = LeafContents::none();
     let mut put = Put {
         answered: 0,
         count: 0,
@@ -169,7 +247,7 @@ pub fn at_each<T: RangeTable, R: OfHeld>(
             };
         };
         let next = put.answered + batch.many;
-        put = put_batch(table, leaves, &batch, put, ends, out);
+        put = put_batch(table, leaves, &batch, &mut contents, put, ends, out);
         if put.answered < next {
             return Each {
                 answered: put.answered,

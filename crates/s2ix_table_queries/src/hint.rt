@@ -5,6 +5,9 @@ pub struct LeafHint {
     pub part: usize,
     /// The leaf's range in that part.
     pub range: usize,
+    /// A number that only the table uses: it reads what lies there ahead of time, and keeps this so that the compiler doesn't leave the read
+    /// out.
+    pub seen: u64,
 }
 
 impl LeafHint {
@@ -13,6 +16,7 @@ impl LeafHint {
         LeafHint {
             part: usize::MAX,
             range: usize::MAX,
+            seen: 0,
         }
     }
 }

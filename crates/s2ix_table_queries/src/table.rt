@@ -11,9 +11,11 @@ ghost use Rattle.s2ix_table_walk.specs.Stretches.{IsSample, IsStretch};
 ghost use Rattle.s2ix_table_walk.specs.Meeting.{IsMeetingList, IsLabelList, meeting_of};
 ghost use Rattle.s2ix_table_walk.specs.Calls.{MayVisit, CallsOn, Visits};
 ghost use Rattle.s2ix_table_walk.specs.Costs.{ranges_met, IsWalkCost};
+ghost use Rattle.s2ix_table_queries.specs.LeafContents.{AreContents};
 
 use crate::hint::LeafHint;
 use crate::labels::gather;
+use crate::leaf_contents::LeafContents;
 use crate::meter::Meter;
 use crate::stretch::Stretch;
 use crate::visit::Visit;
@@ -28,7 +30,8 @@ use std::alloc::Global;
 /// chain of these pairs (S2's `S2CellIndex`, its ranges and its contents). The ranges cover all leaves, empty ones too.
 ///
 /// Queries are `visit`, `visit_counted`, `meeting` and `labels`, at the end. `window`, `stretch`, `read_near` and the calls on borders only
-/// make a walk quicker: a user needs none of them. Of these a table has to write `border` alone.
+/// make a walk quicker, and `look_for` and `contents_near` make `at_each` quicker: a user needs none of them. Of these a table has to write
+/// only `border`.
 ///
 /// A table may keep its ranges in parts. A *border* is the place of the range at which a part begins; the borders rise, and several parts
 /// may have one border. A table that isn't kept in parts is one, with border 0.
@@ -148,18 +151,31 @@ pub trait RangeTable: Sized {
         self.first(self.find(leaf))
     }
 
-    /// Looks for the ranges of some leaves, as many as there is room for hints of, and puts hints to the front that say where they are. No
-    /// clause says what a hint is: [`first_near`](RangeTable::first_near) is quicker by it. A table may look for many leaves at once, and so
-    /// be quicker than by [`first_over`](RangeTable::first_over) for each; by default it looks for none. O(log n) for each.
-    fn look_for(&self, leaves: &[CellId], hints: &mut [LeafHint]) {}
+    /// Looks for the ranges of some leaves, and puts beside each a hint that says where it is. Returns whether it did: a table need not, as
+    /// when there are fewer hints than leaves, and then the hints say nothing. No clause says what a hint is:
+    /// [`contents_near`](RangeTable::contents_near) is quicker by it. By default it looks for none. O(log n) for each leaf.
+    fn look_for(&self, leaves: &[CellId], hints: &mut [LeafHint]) -> bool {
+        false
+    }
 
-    /// The place of the innermost pair over a leaf, as [`first_over`](RangeTable::first_over) gives it. Any `hint` is accepted. O(1) if it is
-    /// the one that [`look_for`](RangeTable::look_for) gave for the leaf.
-    fn first_near(&self, leaf: CellId, hint: LeafHint) -> Option<Self::Place>
+    /// What lies over a leaf, and over the leaves of a span around it. Any `hint` is accepted. O(1) if it is the one that
+    /// [`look_for`](RangeTable::look_for) gave for the leaf, O(log d) if it is of the d-th range before in the same part, else O(log n). By
+    /// default the span has only the leaf, and the hint is not read: O(log n).
+    fn contents_near(&self, leaf: CellId, hint: LeafHint) -> LeafContents<'_, Self::Place>
         requires { level_of leaf ≡ 30 }
-        ensures { LeadsTo (chain self.now) result (contents_at (raw_of leaf) (pairs self.now)) }
+        ensures contents { AreContents (chain self.now) (pairs self.now) result.start result.limit result.held.now result.outer.now result.first result.behind }
+        ensures from { result.start ≤ raw_of leaf }
+        ensures limit { raw_of leaf < result.limit }
     {
-        self.first_over(leaf)
+        LeafContents {
+            start: leaf.raw(),
+            limit: leaf.raw() + 1,
+            held: &[],
+            outer: &[],
+            first: 0,
+            behind: self.first_over(leaf),
+            hint,
+        }
     }
 
     // the pairs rise strictly, each with a count above 0

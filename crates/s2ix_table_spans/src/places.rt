@@ -131,17 +131,25 @@ fn last_among(starts: &[u64], leaf: u64, among: Window) -> usize
     first
 }
 
-/// A step of a search among rising, odd starts for the last one that is not after a leaf: from a place to that so many places ahead if the
-/// start there, or the last one before it, is not after the leaf. Any place is accepted; one past the end stands for the last. From the
-/// first place, steps that are powers of two find it, down to 1. No clause says so, since a caller looks at what they find. No branch depends
-/// on a start, so the processor can take steps of many searches at once. O(1).
+/// A step of a search among rising, odd starts for the last one that is not after a leaf: from a place on by `1 << digit` places, up to three
+/// times, as long as the start there is not after the leaf. Any place and any digit are accepted; a place past the end stands for the last. If
+/// there are no starts it stays. From the first place, steps by every second digit, falling to 0, find it. No clause says so, since a caller looks at what they find. No branch depends on a start,
+/// so the processor can take steps of many searches at once. O(1).
 #[inline(always)]
-pub fn step_ahead(starts: &[u64], leaf: u64, from: usize, step: usize) -> usize
-    requires { 0 < length starts.now }
-{
-    let next = from.saturating_add(step).min(starts.len() - 1);
-    // (the step is multiplied: of a product with a difference the compiler makes a branch)
-    from.saturating_add(step * reached(starts[next], leaf))
+pub fn step_ahead(starts: &[u64], leaf: u64, from: usize, digit: u32) -> usize {
+    if starts.is_empty() {
+        return from;
+    }
+    let step = 1usize.wrapping_shl(digit);
+    let last = starts.len() - 1;
+    let first = from.wrapping_add(step);
+    let second = first.wrapping_add(step);
+    let third = second.wrapping_add(step);
+    let steps = reached(starts[first.min(last)], leaf)
+        + reached(starts[second.min(last)], leaf)
+        + reached(starts[third.min(last)], leaf);
+    // (the steps are shifted: of a product the compiler makes a branch)
+    from.wrapping_add(steps.wrapping_shl(digit))
 }
 
 /// Whether the start at a place is the last one that is not after a leaf. Any place is accepted. O(1).

@@ -1,7 +1,8 @@
-ghost use Rattle.std.specs.Prelude.{◌≡◌, ◌↔◌, ◌-◌, ◌<◌, ◌≤◌, ◌∷◌, IfOk, IsTrue, length, drop, take, map};
+ghost use Rattle.std.specs.Prelude.{◌≡◌, ◌-◌, ◌<◌, ◌≤◌, ◌∷◌, IfOk, IsTrue, length, drop, take, map};
 ghost use Rattle.s2id_core.specs.CellId.{raw_of};
 ghost use Rattle.s2ix_bag_pairs.specs.Collection.{IsCollection};
 ghost use Rattle.s2ix_table_walk.specs.Table.{Range, range_at, IsFound};
+ghost use Rattle.s2ix_table_walk.specs.Links.{AreLinked};
 ghost use Rattle.s2ix_table_walk.specs.Places.{IsPlace, LeadsTo};
 ghost use Rattle.s2ix_table_walk.specs.Stretches.{IsSample};
 ghost use Rattle.s2ix_table_spans.specs.Chains.{chain_of};
@@ -10,7 +11,7 @@ ghost use Rattle.s2ix_table_spans.specs.Starts.{AreEnds};
 ghost use Rattle.s2ix_table_spans.specs.SpanTable.{IsInSpan, IsSpanTable};
 
 use crate::nodes::Nodes;
-use crate::places::{is_last_start, last_ahead, last_of_sampled, last_start};
+use crate::places::{last_ahead, last_of_sampled, last_start};
 use crate::sample::sample_of;
 use crate::splice::Before;
 use s2id_core::{CellId, OutOfMemory};
@@ -199,7 +200,37 @@ impl SpanTable {
         requires { k < length self.now.ranges }
         ensures { LeadsTo (chain_of self.now.held) result (range_at self.now.ranges k).contents }
     {
-        self.as_place(self.firsts[k])
+        self.as_place(self.first_number(k))
+    }
+
+    /// The place of a range's innermost pair, or a number that is no place if nothing lies over it. O(1).
+    #[inline]
+    pub fn first_number(&self, k: usize) -> u32
+        requires { k < length self.now.ranges }
+        ensures { chain_of self.now.held result ≡ (range_at self.now.ranges k).contents }
+    {
+        self.firsts[k]
+    }
+
+    /// Beside each pair the place of the next one outwards, or a number that is no place at the outermost. O(1).
+    #[inline]
+    pub fn outers(&self) -> &[u32]
+        ensures { AreLinked self.now.held result.now (chain_of self.now.held) }
+    {
+        self.outer.as_slice()
+    }
+
+    /// Reads the pair at a place, and where it leads, so that both are in the processor's cache. No clause says which number it returns: a
+    /// caller keeps it only so that the compiler doesn't leave the read out. Any number is accepted. O(1).
+    #[inline]
+    pub fn touch(&self, place: u64) -> u64 {
+        match (
+            self.held().get(place as usize),
+            self.outer.get(place as usize),
+        ) {
+            (Some(held), Some(outer)) => held.cell().raw() ^ u64::from(*outer),
+            _ => 0,
+        }
     }
 
     /// The place of the innermost pair over the first range, or `None` if nothing lies over it. It reads no list. O(1).
@@ -284,7 +315,7 @@ impl SpanTable {
 
     /// The range that has a leaf of the span, as [`find`](SpanTable::find) gives it. `near` is the place of a range: any number is accepted.
     /// O(log d) if the leaf is in the range at `near` or in the d-th after it, else O(log n).
-    #[inline]
+    #[inline(always)]
     pub fn find_near(&self, leaf: CellId, near: usize) -> usize
         requires begins { self.now.from ≤ raw_of leaf }
         requires ends { raw_of leaf < self.now.to }
@@ -295,14 +326,5 @@ impl SpanTable {
         } else {
             self.find(leaf)
         }
-    }
-
-    /// Whether a range has a leaf of the span. Any place is accepted. O(1).
-    #[inline]
-    pub fn has_at(&self, leaf: CellId, place: usize) -> bool
-        requires { raw_of leaf < self.now.to }
-        ensures { IsTrue result ↔ IsFound self.now.ranges place (raw_of leaf) }
-    {
-        is_last_start(self.starts.as_slice(), leaf.raw(), place)
     }
 }

@@ -123,14 +123,19 @@ fn rising_leaves_are_answered_at_once(rt: HostRuntime) {
     assert!(rt; answer_rising::<ChainTable>(rt.alloc(), &bag) == Some(true));
 }
 
-// Where a table says that leaves are, if they are no more than 40.
-fn hints_for(table: &FacedTable, leaves: &[CellId]) -> [LeafHint; 40] {
+// Whether a table looks for these leaves, 40 of them, side by side, and each hint is where the leaf is; `None` if it doesn't look for them.
+fn looks_apart(table: &FacedTable, leaves: &[CellId]) -> Option<bool> {
     let mut hints = [LeafHint::none(); 40];
-    table.look_for(leaves, &mut hints);
-    hints
+    if !table.look_for(leaves, &mut hints) {
+        return None;
+    }
+    Some(
+        leaves.iter().zip(hints.iter()).all(|(leaf, hint)| leaf.is_leaf()
+            && table.contents_near(*leaf, *hint).hint == *hint),
+    )
 }
 
-// Whether a table finds 40 leaves of neighbouring cells one after the other as it does side by side, from the last to the first.
+// Whether a table looks for 40 leaves of neighbouring cells side by side from the last to the first, and not from the first to the last.
 fn looks_both_ways(alloc: Global, bag: &Bag, first: u64) -> Option<bool> {
     let table = FacedTable::build(alloc, bag).ok()?;
     let mut rising = Vec::new(alloc);
@@ -143,9 +148,7 @@ fn looks_both_ways(alloc: Global, bag: &Bag, first: u64) -> Option<bool> {
             .push(cell_at(first.wrapping_add(39 - k))?.range_max())
             .ok()?;
     }
-    let along = hints_for(&table, &rising);
-    let apart = hints_for(&table, &falling);
-    Some(along.iter().eq(apart.iter().rev()))
+    Some(looks_apart(&table, &falling) == Some(true) && looks_apart(&table, &rising) == None)
 }
 
 #[test]

@@ -8,6 +8,7 @@ pub mod RangeList
 pub mod LabelList
 pub mod RangeLaws
 pub mod Places
+pub mod Links
 pub mod Calls
 pub mod Shown
 pub mod Searching

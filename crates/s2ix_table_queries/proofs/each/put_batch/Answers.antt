@@ -1,44 +1,36 @@
 -- One more leaf is answered, or there is no room for it.
-use Rattle.std.proofs.Common.{rules, ◌≡◌, ◌<◌, Some, refl, sym, subst, length, slice_set, arith}
+use Rattle.std.proofs.Common.{rules, ◌≡◌, ◌<◌, ◌+◌, ◌++◌, refl, sym, subst, length, map, take, slice_set, arith}
 use Rattle.s2id_core.specs.declared.cell_id.CellId.{CellId}
 use Rattle.s2id_core.specs.CellId.{raw_of}
 use Rattle.s2ix_table_walk.specs.Contents.{contents_at}
-use Rattle.s2ix_table_walk.specs.Places.{from_place}
-use Rattle.s2ix_table_queries.specs.ManyLeaves.{leaf_in}
 use Rattle.s2ix_table_queries.proofs.LeafByLeaf.{answered_more, leaf_at, no_room}
 use Rattle.s2ix_table_queries.proofs.each.put_batch.Goals as goal
 
 pub returns-in_default-clause-short : goal.returns-in_default-clause-short
 returns-in_default-clause-short g c = λ before.
-    let t = c.args.table.now in
-    let leaves = c.args.leaves.now in
+    let held = g.T.RangeTable.pairs c.args.table.now in
     let leaf = c.index-batch-k.result in
     let i = c.loop-k.invariant in
-    let over = subst (λ (l : CellId). from_place (g.T.RangeTable.chain t) c.first_near-first.result ≡ contents_at (raw_of l) (g.T.RangeTable.pairs t))
-    (sym c.index-batch-k.is) c.first_near-first.ensures.pairs_are in
-    let within = c.requires.batch.within in
-    let less : c.loop-k.k < c.args.batch.now.many = c.loop-k-test.true in
-    let at = leaf_at leaves c.args.before.answered c.args.batch.now.leaves c.args.batch.now.many c.loop-k.k leaf c.requires.batch less c.index-batch-k.is in
-    let there : leaf_in leaves c.loop-k.put.answered ≡ Some leaf = subst (λ n. leaf_in leaves n ≡ Some leaf) (sym i.5) at in
-    no_room (g.T.RangeTable.pairs t) leaves c.loop-k.put.answered c.loop-k.put.count c.args.ends.now c.args.out.now leaf
-    (from_place (g.T.RangeTable.chain t) c.first_near-first.result) (omega (arith, i.5)) there i.1 over
-    (omega (arith, i.3, c.in_default.ensures.short refl))
+    let there = leaf_at c.args.leaves.now c.args.before.answered c.args.batch.now.leaves c.args.batch.now.many c.loop-k.k c.loop-k.put.answered leaf
+    c.requires.batch c.loop-k-test.true i.5 c.index-batch-k.is in
+    let short = subst (λ (l : CellId). length c.loop-k.out < c.loop-k.put.count + length (contents_at (raw_of l) held))
+    (sym c.index-batch-k.is) (c.in_default.ensures.short refl) in
+    no_room held c.args.leaves.now c.loop-k.put.answered c.loop-k.put.count c.args.ends.now c.args.out.now leaf (contents_at (raw_of leaf) held)
+    there.1 there.0 i.1 refl (omega (arith, i.3, short))
 
 pub loop-k-preserved : goal.loop-k-preserved
 loop-k-preserved g c =
-    let t = c.args.table.now in
-    let leaves = c.args.leaves.now in
+    let held = g.T.RangeTable.pairs c.args.table.now in
     let leaf = c.index-batch-k.result in
     let i = c.loop-k.invariant in
-    let over = subst (λ (l : CellId). from_place (g.T.RangeTable.chain t) c.first_near-first.result ≡ contents_at (raw_of l) (g.T.RangeTable.pairs t))
-    (sym c.index-batch-k.is) c.first_near-first.ensures.pairs_are in
-    let within = c.requires.batch.within in
-    let less : c.loop-k.k < c.args.batch.now.many = c.loop-k-test.true in
-    let at = leaf_at leaves c.args.before.answered c.args.batch.now.leaves c.args.batch.now.many c.loop-k.k leaf c.requires.batch less c.index-batch-k.is in
-    let there : leaf_in leaves c.loop-k.put.answered ≡ Some leaf = subst (λ n. leaf_in leaves n ≡ Some leaf) (sym i.5) at in
-    let more = answered_more g.R.OfHeld.of (g.T.RangeTable.pairs t) leaves c.loop-k.put.answered c.loop-k.put.count c.in-Some.end c.loop-k.ends
-    c.loop-k.out c.put_chain.new.out leaf (from_place (g.T.RangeTable.chain t) c.first_near-first.result) i.0 (omega (arith, i.5))
-    (omega arith) there i.1 over c.in-Some.ensures.end c.in-Some.ensures.put in
+    let there = leaf_at c.args.leaves.now c.args.before.answered c.args.batch.now.leaves c.args.batch.now.many c.loop-k.k c.loop-k.put.answered leaf
+    c.requires.batch c.loop-k-test.true i.5 c.index-batch-k.is in
+    let end = subst (λ (l : CellId). c.in-Some.end ≡ c.loop-k.put.count + length (contents_at (raw_of l) held))
+    (sym c.index-batch-k.is) c.in-Some.ensures.end in
+    let put = subst (λ (l : CellId). take c.in-Some.end c.put_contents.new.out
+    ≡ take c.loop-k.put.count c.loop-k.out ++ map g.R.OfHeld.of (contents_at (raw_of l) held)) (sym c.index-batch-k.is) c.in-Some.ensures.put in
+    let more = answered_more g.R.OfHeld.of held c.args.leaves.now c.loop-k.put.answered c.loop-k.put.count c.in-Some.end c.loop-k.ends
+    c.loop-k.out c.put_contents.new.out leaf (contents_at (raw_of leaf) held) i.0 there.1 (omega arith) there.0 i.1 refl end put in
     let ends_long : length (slice_set c.loop-k.ends c.loop-k.put.answered c.in-Some.end) ≡ length c.args.ends.now = search rules in (
       more.0,
       more.1,
@@ -46,4 +38,5 @@ loop-k-preserved g c =
       omega (arith, c.in-Some.ensures.same, i.3),
       ends_long,
       omega (arith, i.5),
+      search rules,
     )

@@ -1,5 +1,6 @@
 -- The leaves whose pairs were put are answered.
 use Rattle.std.proofs.Common.{◌≡◌, ◌≤◌, ◌+◌, length}
+use Rattle.s2ix_table_queries.specs.LeafContents.{AreContents}
 use Rattle.s2ix_table_queries.specs.ManyLeaves.{AreAnswered, over_first}
 use Rattle.s2ix_table_queries.proofs.each.put_batch.Given as goal
 
@@ -11,3 +12,5 @@ invariant-loop-k g l =
     × (length l.out ≡ length l.initial.out)
     × (length l.ends ≡ length l.initial.ends)
     × (l.put.answered ≡ l.fn.before.answered + l.k)
+    × AreContents (g.T.RangeTable.chain l.table) (g.T.RangeTable.pairs l.table) l.contents.start l.contents.limit l.contents.held.now
+    l.contents.outer.now l.contents.first l.contents.behind

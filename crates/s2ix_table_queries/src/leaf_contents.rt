@@ -1,0 +1,56 @@
+ghost use Rattle.std.specs.Prelude.{◌≡◌, ◌↔◌, ◌≤◌, ◌<◌, ℕ, IsTrue};
+ghost use Rattle.s2id_core.specs.CellId.{raw_of};
+ghost use Rattle.s2ix_bag_pairs.specs.Collection.{Collection};
+ghost use Rattle.s2ix_table_queries.specs.LeafContents.{AreContents};
+
+use crate::hint::LeafHint;
+use s2id_core::CellId;
+use s2ix_bag_lists::FlatHeld;
+
+/// What lies over each leaf of a span, innermost first: a chain in lists, from the pair at the place `first` on, and behind it the chain from
+/// the place `behind`.
+#[derive(Debug, Drop)]
+pub struct LeafContents<'a, P: Copy> {
+    /// The leaves are those from this number on,
+    pub start: u64,
+    /// and below this one.
+    pub limit: u64,
+    /// The pairs of the lists.
+    pub held: &'a [FlatHeld],
+    /// Beside each pair the place of the next one outwards; a number that is no place at the end of the chain.
+    pub outer: &'a [u32],
+    /// The place of the first pair of the chain in the lists; a number that is no place if there is none.
+    pub first: u32,
+    /// Where the chain goes on behind the lists.
+    pub behind: Option<P>,
+    /// Where a table found it.
+    pub hint: LeafHint,
+}
+
+impl<P: Copy> LeafContents<'_, P> {
+    /// Contents that lie over no leaf.
+    pub fn none() -> LeafContents<'static, P>
+        ensures { (chain : P → Collection) (pairs : Collection)
+            → AreContents chain pairs result.start result.limit result.held.now result.outer.now result.first result.behind }
+    {
+        LeafContents {
+            start: 0,
+            limit: 0,
+            held: &[],
+            outer: &[],
+            first: 0,
+            behind: None,
+            hint: LeafHint::none(),
+        }
+    }
+
+    /// Whether these contents are those of a leaf: it lies in their span. O(1).
+    #[inline]
+    pub fn is_over(&self, leaf: CellId) -> bool
+        ensures from { IsTrue result → self.now.start ≤ raw_of leaf }
+        ensures limit { IsTrue result → raw_of leaf < self.now.limit }
+        ensures over { self.now.start ≤ raw_of leaf → raw_of leaf < self.now.limit → IsTrue result }
+    {
+        self.start <= leaf.raw() && leaf.raw() < self.limit
+    }
+}
