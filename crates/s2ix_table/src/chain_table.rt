@@ -12,7 +12,7 @@ use s2id_core::{CellId, LEAF_END, OutOfMemory};
 use s2ix_bag_changes::Bag;
 use s2ix_bag_lists::HeldList;
 use s2ix_bag_pairs::Held;
-use s2ix_table_queries::RangeTable;
+use s2ix_table_queries::{LeafContents, LeafHint, RangeTable};
 use s2ix_table_spans::SpanTable;
 use s2ix_table_walk::RangeRow;
 use std::alloc::Global;
@@ -96,6 +96,21 @@ impl RangeTable for ChainTable {
     #[inline]
     fn find(&self, leaf: CellId) -> usize {
         self.span.find(leaf)
+    }
+
+    #[inline(always)]
+    fn contents_near(&self, leaf: CellId, hint: LeafHint) -> LeafContents<'_, u32> {
+        let range = self.span.find_near(leaf, hint.range);
+        let row = self.span.range(range);
+        LeafContents {
+            start: row.start,
+            limit: row.limit,
+            held: self.span.held(),
+            outers: self.span.outers(),
+            innermost: self.span.innermost(range),
+            rest: None,
+            hint: LeafHint { range, ..hint },
+        }
     }
 }
 

@@ -32,7 +32,6 @@ use crate::counting::{Layout, begins_of, uncounted};
 use crate::entries_on::entries_on;
 use crate::face_after::Face;
 use crate::heavy_pairs::{HeavyPairs, all_are_chunks, set_face};
-use crate::looking::MOST;
 use crate::new_parts::{AllFaces, NewFace, NewParts, put_between};
 use crate::offset::{Offset, offset_by};
 use crate::pair_reader::PairReader;
@@ -46,7 +45,7 @@ use s2ix_bag_changes::{Bag, Change};
 use s2ix_bag_lists::HeldParts;
 use s2ix_bag_pairs::Held;
 use s2ix_table_heavy::HeavyPlace;
-use s2ix_table_queries::{LeafContents, LeafHint, RangeTable, Stretch};
+use s2ix_table_queries::{BATCH, LeafContents, LeafHint, RangeTable, Stretch};
 use s2ix_table_spans::SpanTable;
 use s2ix_table_walk::{LeafWindow, RangeRow, Window};
 use std::alloc::Global;
@@ -216,9 +215,9 @@ impl RangeTable for FacedTable {
     // It looks for many side by side, but not for leaves that rise closely: there it is quicker to go on from the last one.
     #[inline]
     fn look_for(&self, leaves: &[CellId], hints: &mut [LeafHint]) -> bool {
-        let looks = leaves.len() <= hints.len().min(MOST) && !self.rise_closely(leaves);
+        let looks = leaves.len() <= hints.len().min(BATCH) && !self.rise_closely(leaves);
         if looks {
-            self.look_apart(leaves, &mut hints[..leaves.len()]);
+            self.look_side_by_side(leaves, hints);
         }
         looks
     }

@@ -77,8 +77,9 @@ pub use parts_changed::parts_after;
 pub use read_faces::{read_changed, read_face, read_list};
 pub use s2ix_table_heavy::HeavyPlace;
 pub use s2ix_table_queries::{
-    ChainIter, CopiedPlace, CopiedTable, Each, EachStop, LeafContents, LeafHint, Meter, OfHeld,
-    RangeIter, RangeTable, Stretch, Visit, at_each, cell_of, chain_at, contents, leaf_of, ranges,
+    BATCH, ChainIter, CopiedPlace, CopiedTable, Each, EachStop, LeafContents, LeafHint, Meter,
+    OfHeld, RangeIter, RangeTable, Stretch, Visit, at_each, cell_of, chain_at, contents, leaf_of,
+    ranges,
 };
 pub use s2ix_table_spans::SpanTable;
 pub use s2ix_table_walk::{Cost, LeafWindow, Meeting, RangeRow, Reader, Window, walk};

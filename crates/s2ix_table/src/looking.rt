@@ -15,7 +15,7 @@ use crate::faced_table::FacedTable;
 use crate::part_place::FacedPlace;
 use crate::starts::start_by;
 use s2id_core::CellId;
-use s2ix_table_queries::{LeafContents, LeafHint, RangeTable};
+use s2ix_table_queries::{BATCH, LeafContents, LeafHint, RangeTable};
 use s2ix_table_spans::{SpanTable, is_last_start, step_ahead};
 
 // The lists of more parts than this are out of the processor's cache.
@@ -24,9 +24,6 @@ const MANY_PARTS: usize = 64;
 // How many neighbouring parts are a few.
 const NEAR_PARTS: usize = 8;
 
-// At most so many searches go on side by side: `at_each` asks for as many at once.
-pub(crate) const MOST: usize = 64;
-
 impl FacedTable {
     // The table of a part, or that of the last part if there is none of this number.
     #[inline]
@@ -34,19 +31,6 @@ impl FacedTable {
         ensures { IsSpanTable result.now }
     {
         self.span(part.min(self.part_count() - 1))
-    }
-
-    // The same hint with part and range no greater than the last ones, and with the place of that range's innermost pair in `seen`.
-    #[inline]
-    fn with_first(&self, hint: LeafHint) -> LeafHint {
-        let part = hint.part.min(self.part_count() - 1);
-        let span = self.span_by(part);
-        let range = hint.range.min(span.range_count() - 1);
-        LeafHint {
-            part,
-            range,
-            seen: u64::from(span.first_number(range)),
-        }
     }
 
     // The part that has a leaf. O(log p).
@@ -114,7 +98,7 @@ impl FacedTable {
     pub(crate) fn contents_in(&self, hint: LeafHint) -> LeafContents<'_, FacedPlace>
         requires { HasRange (spans_of self.now.parts.items) hint.part hint.range }
         ensures contents { AreContents (faced_chain (spans_of self.now.parts.items) self.now.heavy) (⟦<FacedTable as RangeTable>⟧.pairs self.now)
-            result.start result.limit result.held.now result.outer.now result.first result.behind }
+            result.start result.limit result.held.now result.outers.now result.innermost result.rest }
         ensures start { result.start ≡ (range_at (table_of (spans_of self.now.parts.items) hint.part).ranges hint.range).start }
         ensures limit { result.limit ≡ (range_at (table_of (spans_of self.now.parts.items) hint.part).ranges hint.range).limit }
     {
@@ -124,9 +108,9 @@ impl FacedTable {
             start: row.start,
             limit: row.limit,
             held: span.held(),
-            outer: span.outers(),
-            first: span.first_number(hint.range),
-            behind: self.over(hint.part),
+            outers: span.outers(),
+            innermost: span.innermost(hint.range),
+            rest: self.over(hint.part),
             hint,
         }
     }
@@ -142,52 +126,35 @@ impl FacedTable {
         }
     }
 
-    // Looks for leaves by searches that go on side by side, each a step in turn: first among the starts of the parts, then in the parts. Then it
-    // reads what each search leads to, so that this is in the processor's cache.
-    pub(crate) fn look_apart(&self, leaves: &[CellId], hints: &mut [LeafHint])
+    // Looks for leaves by searches that go on side by side, first among the starts of the parts and then in the parts. Then it reads what each
+    // search leads to, so that this is in the processor's cache. It is not inlined: else the compiler may leave these reads out.
+    #[inline(never)]
+    pub(crate) fn look_side_by_side(&self, leaves: &[CellId], hints: &mut [LeafHint])
         requires many { length leaves.now ≤ 64 }
         requires room { length leaves.now ≤ length hints.old }
         ensures { length hints.new ≡ length hints.old }
     {
-        for hint in hints.iter_mut() {
-            *hint = LeafHint {
-                part: 0,
-                range: 0,
-                seen: 0,
-            };
-        }
-        let mut digit = digits_below(self.part_count());
-        while digit > 0 {
-            digit -= 2;
-            self.step_among_parts(leaves, digit, hints);
-        }
-        let mut lists: [&[u64]; MOST] = [&[]; MOST];
-        let mut most = 0;
+        let mut lists = [self.starts.as_slice(); BATCH];
+        let mut parts = [0; BATCH];
+        search_side_by_side(&lists, leaves, &mut parts);
         for k in 0..leaves.len() {
-            lists[k] = self.span_by(hints[k].part).starts();
-            most = most.max(lists[k].len());
+            parts[k] = parts[k].min(self.part_count() - 1);
+            lists[k] = self.span_by(parts[k]).starts();
         }
-        let mut digit = digits_below(most);
-        while digit > 0 {
-            digit -= 2;
-            step_in_parts(&lists, leaves, digit, hints);
+        let mut ranges = [0; BATCH];
+        search_side_by_side(&lists, leaves, &mut ranges);
+        let mut places = [0; BATCH];
+        for k in 0..leaves.len() {
+            let span = self.span_by(parts[k]);
+            ranges[k] = ranges[k].min(span.range_count() - 1);
+            places[k] = span.innermost(ranges[k]);
         }
-        for hint in hints.iter_mut() {
-            *hint = self.with_first(*hint);
-        }
-        for hint in hints.iter_mut() {
-            hint.seen = self.span_by(hint.part).touch(hint.seen);
-        }
-    }
-
-    // A step of each search for a part.
-    #[inline(always)]
-    fn step_among_parts(&self, leaves: &[CellId], digit: u32, hints: &mut [LeafHint])
-        requires { length leaves.now ≤ length hints.old }
-        ensures { length hints.new ≡ length hints.old }
-    {
-        for (k, leaf) in leaves.iter().enumerate() {
-            hints[k].part = step_ahead(&self.starts, leaf.raw(), hints[k].part, digit);
+        for k in 0..leaves.len() {
+            hints[k] = LeafHint {
+                part: parts[k],
+                range: ranges[k],
+                seen: self.span_by(parts[k]).touch(places[k]),
+            };
         }
     }
 }
@@ -204,22 +171,27 @@ fn are_rising(leaves: &[CellId]) -> bool {
     true
 }
 
-// A step of each search for a range in a part, by the list of where the part's ranges begin.
-#[inline(always)]
-fn step_in_parts(lists: &[&[u64]; MOST], leaves: &[CellId], digit: u32, hints: &mut [LeafHint])
-    requires many { length leaves.now ≤ 64 }
-    requires room { length leaves.now ≤ length hints.old }
-    ensures { length hints.new ≡ length hints.old }
+// Searches each list for the last start that is not after the leaf beside it, from place 0 on, each search a step in turn: the place of that
+// start, or one past the end if it is the last.
+#[inline]
+fn search_side_by_side(lists: &[&[u64]; BATCH], leaves: &[CellId], places: &mut [usize; BATCH])
+    requires { length leaves.now ≤ 64 }
 {
-    for (k, leaf) in leaves.iter().enumerate() {
-        hints[k].range = step_ahead(lists[k], leaf.raw(), hints[k].range, digit);
+    let mut longest = 0;
+    for k in 0..leaves.len() {
+        longest = longest.max(lists[k].len());
+    }
+    let mut digit = digits_below(longest);
+    while digit > 0 {
+        digit -= 1;
+        for (k, leaf) in leaves.iter().enumerate() {
+            places[k] = step_ahead(lists[k], leaf.raw(), places[k], digit);
+        }
     }
 }
 
-// How many binary digits the last of so many places has, rounded up to an even number.
-fn digits_below(places: usize) -> u32
-    ensures { result % 2 ≡ 0 }
-{
-    let digits = usize::BITS - places.saturating_sub(1).leading_zeros();
-    digits.div_ceil(2) * 2
+// How many digits to base 4 the last of so many places has.
+fn digits_below(places: usize) -> u32 {
+    let bits = usize::BITS - places.saturating_sub(1).leading_zeros();
+    bits.div_ceil(2)
 }

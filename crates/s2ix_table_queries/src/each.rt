@@ -8,7 +8,7 @@ ghost use Rattle.s2ix_table_walk.specs.Places.{IsPlace, from_place};
 ghost use Rattle.s2ix_table_queries.specs.LeafContents.{AreContents};
 ghost use Rattle.s2ix_table_queries.specs.ManyLeaves.{AreAnswered, IsBatchAt, IsNoLeaf, LacksRoom, leaf_in, over_first};
 
-use crate::hint::LeafHint;
+use crate::hint::{BATCH, LeafHint};
 use crate::leaf::leaf_of;
 use crate::leaf_contents::LeafContents;
 use crate::of_held::OfHeld;
@@ -111,7 +111,7 @@ fn put_contents<T: RangeTable, R: OfHeld>(
     from: usize,
 ) -> Option<usize>
     requires contents { AreContents (T.chain table.now) (T.pairs table.now) contents.now.start contents.now.limit
-        contents.now.held.now contents.now.outer.now contents.now.first contents.now.behind }
+        contents.now.held.now contents.now.outers.now contents.now.innermost contents.now.rest }
     requires leaf { level_of leaf ≡ 30 }
     requires from { contents.now.start ≤ raw_of leaf }
     requires limit { raw_of leaf < contents.now.limit }
@@ -123,17 +123,20 @@ fn put_contents<T: RangeTable, R: OfHeld>(
     ensures put { IfSome result (λ end. take end out.new ≡ take from out.old ++ map R.of (contents_at (raw_of leaf) (T.pairs table.now))) }
     ensures short { result ≡ None → length out.old < from + length (contents_at (raw_of leaf) (T.pairs table.now)) }
 {
-    let at = put_linked(contents.held, contents.outer, contents.first, out, from)?;
-    put_chain(table, contents.behind, out, at)
+    let at = put_linked(
+        contents.held,
+        contents.outers,
+        contents.innermost,
+        out,
+        from,
+    )?;
+    put_chain(table, contents.rest, out, at)
 }
-
-// How many leaves a table looks for at once.
-const MOST: usize = 64;
 
 // The leaves of some numbers that follow one another in a list.
 #[derive(Drop)]
 struct Batch {
-    leaves: [CellId; MOST],
+    leaves: [CellId; BATCH],
     many: usize,
 }
 
@@ -147,11 +150,11 @@ fn batch_at(numbers: &[u64], from: usize) -> Option<Batch>
     ensures none { result ≡ None → leaf_in numbers.now from ≡ None }
 {
     let first = leaf_of(numbers[from])?;
-    let mut leaves = [first; MOST];
+    let mut leaves = [first; BATCH];
     let mut many = 1;
-    while many < MOST && many < numbers.len() - from {
+    while many < BATCH && many < numbers.len() - from {
         let Some(leaf) = leaf_of(numbers[from + many]) else {
-            return Some(Batch { leaves, many });
+            break;
         };
         leaves[many] = leaf;
         many += 1;
@@ -159,70 +162,71 @@ fn batch_at(numbers: &[u64], from: usize) -> Option<Batch>
     Some(Batch { leaves, many })
 }
 
-// How many of some leaves are answered, and how many pairs are put for these.
+// How many leaves are answered, and how many pairs are put for these.
 #[derive(Clone, Copy)]
-struct Put {
-    answered: usize,
-    count: usize,
+struct Done {
+    leaves: usize,
+    pairs: usize,
 }
 
-// Puts what lies over the next leaves of a list behind what is put for those that are answered, as long as there is room. `contents` is what
-// `contents_near` gave last; it often lies over the next leaf too.
+// Answers the leaves of a batch in order, as long as there is room. `contents` is what `contents_near` gave last; it often lies over the next
+// leaf too.
 #[inline]
 fn put_batch<'a, T: RangeTable, R: OfHeld>(
     table: &'a T,
     leaves: &[u64],
     batch: &Batch,
     contents: &mut LeafContents<'a, T::Place>,
-    before: Put,
+    before: Done,
     ends: &mut [usize],
     out: &mut [R],
-) -> Put
-    requires before { AreAnswered R.of (T.pairs table.now) leaves.now before.answered ends.old out.old }
-    requires count { before.count ≡ length (over_first before.answered leaves.now (T.pairs table.now)) }
-    requires room { before.count ≤ length out.old }
-    requires batch { IsBatchAt leaves.now before.answered batch.now.leaves batch.now.many }
+) -> Done
+    requires before { AreAnswered R.of (T.pairs table.now) leaves.now before.leaves ends.old out.old }
+    requires count { before.pairs ≡ length (over_first before.leaves leaves.now (T.pairs table.now)) }
+    requires room { before.pairs ≤ length out.old }
+    requires batch { IsBatchAt leaves.now before.leaves batch.now.leaves batch.now.many }
     requires contents { AreContents (T.chain table.now) (T.pairs table.now) contents.old.start contents.old.limit
-        contents.old.held.now contents.old.outer.now contents.old.first contents.old.behind }
+        contents.old.held.now contents.old.outers.now contents.old.innermost contents.old.rest }
     ensures contents { AreContents (T.chain table.now) (T.pairs table.now) contents.new.start contents.new.limit
-        contents.new.held.now contents.new.outer.now contents.new.first contents.new.behind }
+        contents.new.held.now contents.new.outers.now contents.new.innermost contents.new.rest }
     ensures same { length out.new ≡ length out.old }
     ensures listed { length ends.new ≡ length ends.old }
-    ensures answered { AreAnswered R.of (T.pairs table.now) leaves.now result.answered ends.new out.new }
-    ensures count { result.count ≡ length (over_first result.answered leaves.now (T.pairs table.now)) }
-    ensures room { result.count ≤ length out.old }
-    ensures short { result.answered < before.answered + batch.now.many
-        → LacksRoom (T.pairs table.now) leaves.now result.answered ends.old out.old }
+    ensures answered { AreAnswered R.of (T.pairs table.now) leaves.now result.leaves ends.new out.new }
+    ensures count { result.pairs ≡ length (over_first result.leaves leaves.now (T.pairs table.now)) }
+    ensures room { result.pairs ≤ length out.old }
+    ensures short { result.leaves < before.leaves + batch.now.many
+        → LacksRoom (T.pairs table.now) leaves.now result.leaves ends.old out.old }
 {
-    let mut hints = [LeafHint::none(); MOST];
-    let has_looked = table.look_for(&batch.leaves[..batch.many], &mut hints);
-    let mut put = before;
+    let mut hints = [LeafHint::none(); BATCH];
+    let many = batch.many.min(ends.len() - before.leaves);
+    let has_looked = table.look_for(&batch.leaves[..many], &mut hints);
+    let mut done = before;
     for k in 0..batch.many {
-        if put.answered >= ends.len() {
-            return put;
+        if done.leaves >= ends.len() {
+            return done;
         }
         let leaf = batch.leaves[k];
-        if !contents.is_over(leaf) {
+        if !contents.has_leaf(leaf) {
             let hint = if has_looked { hints[k] } else { contents.hint };
             *contents = table.contents_near(leaf, hint);
         }
-        let Some(end) = put_contents(table, contents, leaf, out, put.count) else {
-            return put;
+        let Some(end) = put_contents(table, contents, leaf, out, done.pairs) else {
+            return done;
         };
-        ends[put.answered] = end;
-        put = Put {
-            answered: put.answered + 1,
-            count: end,
+        ends[done.leaves] = end;
+        done = Done {
+            leaves: done.leaves + 1,
+            pairs: end,
         };
     }
-    put
+    done
 }
 
 /// Puts what lies over each of some leaves into a buffer: what [`chain_at`](crate::chain_at) gives for the first leaf, then for the next,
 /// and so on. Beside each leaf, `ends` gets how many are put for it and those before it. The leaves are given by their numbers, as a
 /// column has them, in any order, repeated or not. It answers leaves up to the first number that is no leaf's, or as many as both
 /// buffers have room for; past the answers both buffers may be overwritten. It does not allocate. O(log n + k) for each leaf with k pairs over
-/// it; leaves that rise are quickest.
+/// it, and O(log n) for each of at most 63 more that it looks for before room ends; leaves that rise are quickest.
 pub fn at_each<T: RangeTable, R: OfHeld>(
     table: &T,
     leaves: &[u64],
@@ -235,28 +239,28 @@ pub fn at_each<T: RangeTable, R: OfHeld>(
     ensures no_room { result.stop ≡ EachStop.NoRoom → LacksRoom (T.pairs table.now) leaves.now result.answered ends.old out.old }
 {
     let mut contents = LeafContents::none();
-    let mut put = Put {
-        answered: 0,
-        count: 0,
+    let mut done = Done {
+        leaves: 0,
+        pairs: 0,
     };
-    while put.answered < leaves.len() {
-        let Some(batch) = batch_at(leaves, put.answered) else {
+    while done.leaves < leaves.len() {
+        let Some(batch) = batch_at(leaves, done.leaves) else {
             return Each {
-                answered: put.answered,
+                answered: done.leaves,
                 stop: EachStop::NoLeaf,
             };
         };
-        let next = put.answered + batch.many;
-        put = put_batch(table, leaves, &batch, &mut contents, put, ends, out);
-        if put.answered < next {
+        let next = done.leaves + batch.many;
+        done = put_batch(table, leaves, &batch, &mut contents, done, ends, out);
+        if done.leaves < next {
             return Each {
-                answered: put.answered,
+                answered: done.leaves,
                 stop: EachStop::NoRoom,
             };
         }
     }
     Each {
-        answered: put.answered,
+        answered: done.leaves,
         stop: EachStop::All,
     }
 }

@@ -1,3 +1,6 @@
+/// How many leaves [`at_each`](crate::at_each) looks for at once.
+pub const BATCH: usize = 64;
+
 /// Where a table found a leaf, which makes the next look there quicker.
 #[derive(Clone, Copy, Debug, PartialEq, Eq)]
 pub struct LeafHint {
@@ -11,7 +14,7 @@ pub struct LeafHint {
 }
 
 impl LeafHint {
-    /// No hint.
+    /// A hint that fits no leaf. O(1).
     pub fn none() -> LeafHint {
         LeafHint {
             part: usize::MAX,

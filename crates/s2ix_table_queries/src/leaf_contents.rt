@@ -7,8 +7,8 @@ use crate::hint::LeafHint;
 use s2id_core::CellId;
 use s2ix_bag_lists::FlatHeld;
 
-/// What lies over each leaf of a span, innermost first: a chain in lists, from the pair at the place `first` on, and behind it the chain from
-/// the place `behind`.
+/// What lies over each leaf of a span, innermost first: a chain in lists, from the pair at the place `innermost` on, and then the chain from
+/// the place `rest` of the table.
 #[derive(Debug, Drop)]
 pub struct LeafContents<'a, P: Copy> {
     /// The leaves are those from this number on,
@@ -17,36 +17,36 @@ pub struct LeafContents<'a, P: Copy> {
     pub limit: u64,
     /// The pairs of the lists.
     pub held: &'a [FlatHeld],
-    /// Beside each pair the place of the next one outwards; a number that is no place at the end of the chain.
-    pub outer: &'a [u32],
-    /// The place of the first pair of the chain in the lists; a number that is no place if there is none.
-    pub first: u32,
-    /// Where the chain goes on behind the lists.
-    pub behind: Option<P>,
-    /// Where a table found it.
+    /// Beside each pair the place of the next one outwards; `held.len()` or more at the end of a chain.
+    pub outers: &'a [u32],
+    /// The place of the first pair of the chain in the lists; `held.len()` or more if there is none.
+    pub innermost: u32,
+    /// Where the chain goes on after the lists.
+    pub rest: Option<P>,
+    /// A hint for the next call nearby.
     pub hint: LeafHint,
 }
 
 impl<P: Copy> LeafContents<'_, P> {
-    /// Contents that lie over no leaf.
+    /// Contents that lie over no leaf. O(1).
     pub fn none() -> LeafContents<'static, P>
         ensures { (chain : P → Collection) (pairs : Collection)
-            → AreContents chain pairs result.start result.limit result.held.now result.outer.now result.first result.behind }
+            → AreContents chain pairs result.start result.limit result.held.now result.outers.now result.innermost result.rest }
     {
         LeafContents {
             start: 0,
             limit: 0,
             held: &[],
-            outer: &[],
-            first: 0,
-            behind: None,
+            outers: &[],
+            innermost: 0,
+            rest: None,
             hint: LeafHint::none(),
         }
     }
 
-    /// Whether these contents are those of a leaf: it lies in their span. O(1).
+    /// Whether a leaf lies in the span of these contents. O(1).
     #[inline]
-    pub fn is_over(&self, leaf: CellId) -> bool
+    pub fn has_leaf(&self, leaf: CellId) -> bool
         ensures from { IsTrue result → self.now.start ≤ raw_of leaf }
         ensures limit { IsTrue result → raw_of leaf < self.now.limit }
         ensures over { self.now.start ≤ raw_of leaf → raw_of leaf < self.now.limit → IsTrue result }

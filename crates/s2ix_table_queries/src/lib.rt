@@ -25,7 +25,7 @@ mod visit;
 
 pub use copied::{CopiedPlace, CopiedTable};
 pub use each::{Each, EachStop, at_each};
-pub use hint::LeafHint;
+pub use hint::{BATCH, LeafHint};
 pub use iter::{ChainIter, RangeIter, chain_at, contents, ranges};
 pub use leaf::{cell_of, leaf_of};
 pub use leaf_contents::LeafContents;

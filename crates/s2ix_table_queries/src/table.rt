@@ -151,19 +151,18 @@ pub trait RangeTable: Sized {
         self.first(self.find(leaf))
     }
 
-    /// Looks for the ranges of some leaves, and puts beside each a hint that says where it is. Returns whether it did: a table need not, as
-    /// when there are fewer hints than leaves, and then the hints say nothing. No clause says what a hint is:
-    /// [`contents_near`](RangeTable::contents_near) is quicker by it. By default it looks for none. O(log n) for each leaf.
+    /// Looks for the ranges of `leaves`, and puts the hint for `leaves[k]` to `hints[k]`. Returns false if it did not look: then the hints say
+    /// nothing. A table may always return false, and does so by default. No clause says what a hint is:
+    /// [`contents_near`](RangeTable::contents_near) is quicker by it. O(log n) for each leaf.
     fn look_for(&self, leaves: &[CellId], hints: &mut [LeafHint]) -> bool {
         false
     }
 
-    /// What lies over a leaf, and over the leaves of a span around it. Any `hint` is accepted. O(1) if it is the one that
-    /// [`look_for`](RangeTable::look_for) gave for the leaf, O(log d) if it is of the d-th range before in the same part, else O(log n). By
-    /// default the span has only the leaf, and the hint is not read: O(log n).
+    /// What lies over a leaf, and over the leaves of a span around it. Any `hint` is accepted. O(1 + log d) if it names the leaf's range or one
+    /// d ranges before it in the same part, else O(log n). By default the span has only the leaf, and the hint is not read: O(log n).
     fn contents_near(&self, leaf: CellId, hint: LeafHint) -> LeafContents<'_, Self::Place>
         requires { level_of leaf ≡ 30 }
-        ensures contents { AreContents (chain self.now) (pairs self.now) result.start result.limit result.held.now result.outer.now result.first result.behind }
+        ensures contents { AreContents (chain self.now) (pairs self.now) result.start result.limit result.held.now result.outers.now result.innermost result.rest }
         ensures from { result.start ≤ raw_of leaf }
         ensures limit { raw_of leaf < result.limit }
     {
@@ -171,9 +170,9 @@ pub trait RangeTable: Sized {
             start: leaf.raw(),
             limit: leaf.raw() + 1,
             held: &[],
-            outer: &[],
-            first: 0,
-            behind: self.first_over(leaf),
+            outers: &[],
+            innermost: 0,
+            rest: self.first_over(leaf),
             hint,
         }
     }

@@ -92,7 +92,7 @@ fn far_last(starts: &[u64], leaf: u64, among: Window) -> usize
     first
 }
 
-// The last of rising starts that is not after a leaf, from one on that isn't. It tries those that are 1, 3, 7 and so on farther ahead, and
+// The last of rising starts that is not after a leaf, searched from the place `from`, whose start isn't after it either. It tries those that are 1, 3, 7 and so on farther ahead, and
 // then looks between the last two. O(log d) for one that is d places ahead.
 #[inline(always)]
 pub(crate) fn last_ahead(starts: &[u64], leaf: u64, from: usize) -> usize
@@ -131,16 +131,18 @@ fn last_among(starts: &[u64], leaf: u64, among: Window) -> usize
     first
 }
 
-/// A step of a search among rising, odd starts for the last one that is not after a leaf: from a place on by `1 << digit` places, up to three
-/// times, as long as the start there is not after the leaf. Any place and any digit are accepted; a place past the end stands for the last. If
-/// there are no starts it stays. From the first place, steps by every second digit, falling to 0, find it. No clause says so, since a caller looks at what they find. No branch depends on a start,
-/// so the processor can take steps of many searches at once. O(1).
+/// One step of a search among rising, odd starts for the last one that is not after a leaf: it goes on from a place by 0 to 3 times
+/// `4^digit` places, as far as the starts there are not after the leaf. Any place and any digit are accepted: a place past the end reads the
+/// last start, and without starts it stays. If there are no more than `4^d` starts, the steps from place 0 by the digits d - 1, d - 2 and so
+/// on to 0 find it, or end past the last start if that is it. No clause says so: who uses a place that was found so looks at it. No branch
+/// depends on a start, so the processor can take steps of many searches at once. O(1).
 #[inline(always)]
 pub fn step_ahead(starts: &[u64], leaf: u64, from: usize, digit: u32) -> usize {
     if starts.is_empty() {
         return from;
     }
-    let step = 1usize.wrapping_shl(digit);
+    let shift = digit.wrapping_mul(2);
+    let step = 1usize.wrapping_shl(shift);
     let last = starts.len() - 1;
     let first = from.wrapping_add(step);
     let second = first.wrapping_add(step);
@@ -148,8 +150,8 @@ pub fn step_ahead(starts: &[u64], leaf: u64, from: usize, digit: u32) -> usize {
     let steps = reached(starts[first.min(last)], leaf)
         + reached(starts[second.min(last)], leaf)
         + reached(starts[third.min(last)], leaf);
-    // (the steps are shifted: of a product the compiler makes a branch)
-    from.wrapping_add(steps.wrapping_shl(digit))
+    // A shift: of a product the compiler makes a branch.
+    from.wrapping_add(steps.wrapping_shl(shift))
 }
 
 /// Whether the start at a place is the last one that is not after a leaf. Any place is accepted. O(1).

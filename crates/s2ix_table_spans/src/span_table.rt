@@ -200,19 +200,20 @@ impl SpanTable {
         requires { k < length self.now.ranges }
         ensures { LeadsTo (chain_of self.now.held) result (range_at self.now.ranges k).contents }
     {
-        self.as_place(self.first_number(k))
+        self.as_place(self.innermost(k))
     }
 
-    /// The place of a range's innermost pair, or a number that is no place if nothing lies over it. O(1).
+    /// The place of a range's innermost pair, or a number that is no place, how many pairs there are or more, if nothing lies over it. O(1).
     #[inline]
-    pub fn first_number(&self, k: usize) -> u32
+    pub fn innermost(&self, k: usize) -> u32
         requires { k < length self.now.ranges }
         ensures { chain_of self.now.held result ≡ (range_at self.now.ranges k).contents }
     {
         self.firsts[k]
     }
 
-    /// Beside each pair the place of the next one outwards, or a number that is no place at the outermost. O(1).
+    /// Beside each pair the place of the next one outwards, or a number that is no place, how many pairs there are or more, at the outermost.
+    /// O(1).
     #[inline]
     pub fn outers(&self) -> &[u32]
         ensures { AreLinked self.now.held result.now (chain_of self.now.held) }
@@ -223,7 +224,7 @@ impl SpanTable {
     /// Reads the pair at a place, and where it leads, so that both are in the processor's cache. No clause says which number it returns: a
     /// caller keeps it only so that the compiler doesn't leave the read out. Any number is accepted. O(1).
     #[inline]
-    pub fn touch(&self, place: u64) -> u64 {
+    pub fn touch(&self, place: u32) -> u64 {
         match (
             self.held().get(place as usize),
             self.outer.get(place as usize),
@@ -314,7 +315,7 @@ impl SpanTable {
     }
 
     /// The range that has a leaf of the span, as [`find`](SpanTable::find) gives it. `near` is the place of a range: any number is accepted.
-    /// O(log d) if the leaf is in the range at `near` or in the d-th after it, else O(log n).
+    /// O(1 + log d) if the leaf is in the range at `near` or d ranges after it, else O(log n).
     #[inline(always)]
     pub fn find_near(&self, leaf: CellId, near: usize) -> usize
         requires begins { self.now.from ≤ raw_of leaf }

@@ -67,76 +67,123 @@ fn leaves_of(alloc: Global, cells: &[u64]) -> Option<Vec<u64>> {
     Some(leaves)
 }
 
-// Whether a kind of table of a bag answers those leaves at once: each first one of two has the label.
-fn answers_leaves<T: RangeTable + Drop>(alloc: Global, bag: &Bag, leaves: &[u64]) -> Option<bool> {
+// That bag with the label 9 over all of face 5: a table in parts keeps this pair apart from them.
+fn bag_under_a_face(alloc: Global) -> Option<Bag> {
+    let pair = Pair {
+        cell: CellId::from_raw(0xb000000000000000)?,
+        label: Label::new(9)?,
+    };
+    let entry = Entry {
+        pair,
+        before: 0,
+        after: 1,
+    };
+    let change = Change::from_entries(alloc, &[entry]).ok()?;
+    wide_bag(alloc)?.applied(alloc, &change).ok()
+}
+
+// Whether a kind of table of a bag answers those leaves at once: over each first one of two lie these labels.
+fn table_answers<T: RangeTable + Drop>(
+    alloc: Global,
+    bag: &Bag,
+    leaves: &[u64],
+    over: &[u32],
+) -> Option<bool> {
     let table = T::build(alloc, bag).ok()?;
     let many = leaves.len();
+    let found = (many / 2).checked_mul(over.len())?;
     let mut ends = Vec::from_elem(alloc, 0usize, many).ok()?;
-    let mut labels = Vec::from_elem(alloc, 0u32, many).ok()?;
+    let mut labels = Vec::from_elem(alloc, 0u32, found).ok()?;
     let each = at_each(&table, leaves, &mut ends, &mut labels);
     let is_whole = each
         == Each {
             answered: many,
             stop: EachStop::All,
         };
-    let are_counted = ends.iter().enumerate().all(|(k, end)| *end == k / 2 + 1);
-    let are_put = labels.iter().take(many / 2).all(|label| *label == 7);
+    let are_counted = ends
+        .iter()
+        .enumerate()
+        .all(|(k, end)| *end == (k / 2 + 1).wrapping_mul(over.len()));
+    let are_put = labels.chunks(over.len().max(1)).all(|row| row == over);
     Some(is_whole && are_counted && are_put)
 }
 
 // Whether each kind of table does.
-fn answer_leaves(alloc: Global, bag: &Bag, cells: &[u64]) -> Option<bool> {
+fn both_tables_answer(alloc: Global, bag: &Bag, cells: &[u64], over: &[u32]) -> Option<bool> {
     let leaves = leaves_of(alloc, cells)?;
-    let chain = answers_leaves::<ChainTable>(alloc, bag, &leaves)?;
-    let faced = answers_leaves::<FacedTable>(alloc, bag, &leaves)?;
+    let chain = table_answers::<ChainTable>(alloc, bag, &leaves, over)?;
+    let faced = table_answers::<FacedTable>(alloc, bag, &leaves, over)?;
     Some(chain && faced)
 }
 
 #[test]
 fn many_leaves_are_answered_at_once(rt: HostRuntime) {
-    let bag = wide_bag(rt.alloc()).expect(&rt, "a bag");
     let mut cells = [0; 100];
     for k in 0..100u64 {
         cells[k as usize] = k * 7_919 % 20_000;
     }
-    assert!(rt; answer_leaves(rt.alloc(), &bag, &cells) == Some(true));
+    let bag = wide_bag(rt.alloc()).expect(&rt, "a bag");
+    assert!(rt; both_tables_answer(rt.alloc(), &bag, &cells, &[7]) == Some(true));
+    let bag = bag_under_a_face(rt.alloc()).expect(&rt, "a bag");
+    assert!(rt; both_tables_answer(rt.alloc(), &bag, &cells, &[7, 9]) == Some(true));
 }
 
-// As above of rising leaves: the first ones of the first cells.
-fn answer_rising<T: RangeTable + Drop>(alloc: Global, bag: &Bag) -> Option<bool> {
+// Whether a kind of table of a bag answers rising leaves at once, the first ones of the first 200 cells: over each lies the label 7.
+fn answers_rising<T: RangeTable + Drop>(alloc: Global, bag: &Bag) -> Option<bool> {
     let table = T::build(alloc, bag).ok()?;
     let mut leaves = Vec::new(alloc);
     for k in 0..200u64 {
         leaves.push(cell_at(k)?.span_start()).ok()?;
     }
     let mut ends = Vec::from_elem(alloc, 0usize, 200).ok()?;
-    let mut held = Vec::from_elem(alloc, Label::new(0)?, 200).ok()?;
-    let each = at_each(&table, &leaves, &mut ends, &mut held);
-    let label = Label::new(7)?;
-    Some(each.answered == 200 && held.iter().all(|each| *each == label))
+    let mut labels = Vec::from_elem(alloc, 0u32, 200).ok()?;
+    let each = at_each(&table, &leaves, &mut ends, &mut labels);
+    let are_counted = ends.iter().enumerate().all(|(k, end)| *end == k + 1);
+    Some(each.answered == 200 && are_counted && labels.iter().all(|label| *label == 7))
 }
 
 #[test]
 fn rising_leaves_are_answered_at_once(rt: HostRuntime) {
     let bag = wide_bag(rt.alloc()).expect(&rt, "a bag");
-    assert!(rt; answer_rising::<FacedTable>(rt.alloc(), &bag) == Some(true));
-    assert!(rt; answer_rising::<ChainTable>(rt.alloc(), &bag) == Some(true));
+    assert!(rt; answers_rising::<FacedTable>(rt.alloc(), &bag) == Some(true));
+    assert!(rt; answers_rising::<ChainTable>(rt.alloc(), &bag) == Some(true));
 }
 
-// Whether a table looks for these leaves, 40 of them, side by side, and each hint is where the leaf is; `None` if it doesn't look for them.
-fn looks_apart(table: &FacedTable, leaves: &[CellId]) -> Option<bool> {
-    let mut hints = [LeafHint::none(); 40];
-    if !table.look_for(leaves, &mut hints) {
-        return None;
-    }
+// Whether a table answers as many leaves as there is room for their ends, if there is room for fewer than leaves.
+fn answers_in_little_room(alloc: Global, bag: &Bag, room: usize) -> Option<bool> {
+    let table = FacedTable::build(alloc, bag).ok()?;
+    let leaves = leaves_of(alloc, &[19_999, 3, 12_345, 3])?;
+    let mut ends = Vec::from_elem(alloc, 0usize, room).ok()?;
+    let mut labels = Vec::from_elem(alloc, 0u32, 4).ok()?;
+    let each = at_each(&table, &leaves, &mut ends, &mut labels);
+    let stop = EachStop::NoRoom;
     Some(
-        leaves.iter().zip(hints.iter()).all(|(leaf, hint)| leaf.is_leaf()
-            && table.contents_near(*leaf, *hint).hint == *hint),
+        each == Each {
+            answered: room,
+            stop,
+        },
     )
 }
 
-// Whether a table looks for 40 leaves of neighbouring cells side by side from the last to the first, and not from the first to the last.
-fn looks_both_ways(alloc: Global, bag: &Bag, first: u64) -> Option<bool> {
+#[test]
+fn leaves_are_answered_as_far_as_there_is_room(rt: HostRuntime) {
+    let bag = wide_bag(rt.alloc()).expect(&rt, "a bag");
+    for room in [0, 1, 2, 7] {
+        assert!(rt; answers_in_little_room(rt.alloc(), &bag, room) == Some(true));
+    }
+}
+
+// Whether a table looks for these leaves, 40 of them, and puts hints that it finds each leaf by, unchanged.
+fn looks_for(table: &FacedTable, leaves: &[CellId]) -> bool {
+    let mut hints = [LeafHint::none(); 40];
+    table.look_for(leaves, &mut hints)
+        && leaves.iter().zip(hints.iter()).all(|(leaf, hint)| leaf.is_leaf()
+            && table.contents_near(*leaf, *hint).hint == *hint)
+}
+
+// Whether a table looks for the last leaves of 40 neighbouring cells, from the last cell to the first, and puts hints that serve; for as many
+// that rise it does not look.
+fn looks_side_by_side(alloc: Global, bag: &Bag, first: u64) -> Option<bool> {
     let table = FacedTable::build(alloc, bag).ok()?;
     let mut rising = Vec::new(alloc);
     let mut falling = Vec::new(alloc);
@@ -148,14 +195,15 @@ fn looks_both_ways(alloc: Global, bag: &Bag, first: u64) -> Option<bool> {
             .push(cell_at(first.wrapping_add(39 - k))?.range_max())
             .ok()?;
     }
-    Some(looks_apart(&table, &falling) == Some(true) && looks_apart(&table, &rising) == None)
+    let mut hints = [LeafHint::none(); 40];
+    Some(looks_for(&table, &falling) && !table.look_for(&rising, &mut hints))
 }
 
 #[test]
-fn leaves_are_found_side_by_side_as_one_by_one(rt: HostRuntime) {
+fn leaves_are_found_side_by_side(rt: HostRuntime) {
     let bag = wide_bag(rt.alloc()).expect(&rt, "a bag");
     for first in [0u64, 500, 511, 512, 7_000, 19_960] {
-        assert!(rt; looks_both_ways(rt.alloc(), &bag, first) == Some(true));
+        assert!(rt; looks_side_by_side(rt.alloc(), &bag, first) == Some(true));
     }
 }
 

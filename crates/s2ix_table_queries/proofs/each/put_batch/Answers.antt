@@ -11,11 +11,11 @@ returns-in_default-clause-short g c = λ before.
     let held = g.T.RangeTable.pairs c.args.table.now in
     let leaf = c.index-batch-k.result in
     let i = c.loop-k.invariant in
-    let there = leaf_at c.args.leaves.now c.args.before.answered c.args.batch.now.leaves c.args.batch.now.many c.loop-k.k c.loop-k.put.answered leaf
+    let there = leaf_at c.args.leaves.now c.args.before.leaves c.args.batch.now.leaves c.args.batch.now.many c.loop-k.k c.loop-k.done.leaves leaf
     c.requires.batch c.loop-k-test.true i.5 c.index-batch-k.is in
-    let short = subst (λ (l : CellId). length c.loop-k.out < c.loop-k.put.count + length (contents_at (raw_of l) held))
+    let short = subst (λ (l : CellId). length c.loop-k.out < c.loop-k.done.pairs + length (contents_at (raw_of l) held))
     (sym c.index-batch-k.is) (c.in_default.ensures.short refl) in
-    no_room held c.args.leaves.now c.loop-k.put.answered c.loop-k.put.count c.args.ends.now c.args.out.now leaf (contents_at (raw_of leaf) held)
+    no_room held c.args.leaves.now c.loop-k.done.leaves c.loop-k.done.pairs c.args.ends.now c.args.out.now leaf (contents_at (raw_of leaf) held)
     there.1 there.0 i.1 refl (omega (arith, i.3, short))
 
 pub loop-k-preserved : goal.loop-k-preserved
@@ -23,15 +23,15 @@ loop-k-preserved g c =
     let held = g.T.RangeTable.pairs c.args.table.now in
     let leaf = c.index-batch-k.result in
     let i = c.loop-k.invariant in
-    let there = leaf_at c.args.leaves.now c.args.before.answered c.args.batch.now.leaves c.args.batch.now.many c.loop-k.k c.loop-k.put.answered leaf
+    let there = leaf_at c.args.leaves.now c.args.before.leaves c.args.batch.now.leaves c.args.batch.now.many c.loop-k.k c.loop-k.done.leaves leaf
     c.requires.batch c.loop-k-test.true i.5 c.index-batch-k.is in
-    let end = subst (λ (l : CellId). c.in-Some.end ≡ c.loop-k.put.count + length (contents_at (raw_of l) held))
+    let end = subst (λ (l : CellId). c.in-Some.end ≡ c.loop-k.done.pairs + length (contents_at (raw_of l) held))
     (sym c.index-batch-k.is) c.in-Some.ensures.end in
     let put = subst (λ (l : CellId). take c.in-Some.end c.put_contents.new.out
-    ≡ take c.loop-k.put.count c.loop-k.out ++ map g.R.OfHeld.of (contents_at (raw_of l) held)) (sym c.index-batch-k.is) c.in-Some.ensures.put in
-    let more = answered_more g.R.OfHeld.of held c.args.leaves.now c.loop-k.put.answered c.loop-k.put.count c.in-Some.end c.loop-k.ends
+    ≡ take c.loop-k.done.pairs c.loop-k.out ++ map g.R.OfHeld.of (contents_at (raw_of l) held)) (sym c.index-batch-k.is) c.in-Some.ensures.put in
+    let more = answered_more g.R.OfHeld.of held c.args.leaves.now c.loop-k.done.leaves c.loop-k.done.pairs c.in-Some.end c.loop-k.ends
     c.loop-k.out c.put_contents.new.out leaf (contents_at (raw_of leaf) held) i.0 there.1 (omega arith) there.0 i.1 refl end put in
-    let ends_long : length (slice_set c.loop-k.ends c.loop-k.put.answered c.in-Some.end) ≡ length c.args.ends.now = search rules in (
+    let ends_long : length (slice_set c.loop-k.ends c.loop-k.done.leaves c.in-Some.end) ≡ length c.args.ends.now = search rules in (
       more.0,
       more.1,
       omega (arith, c.in-Some.ensures.within, c.in-Some.ensures.same),

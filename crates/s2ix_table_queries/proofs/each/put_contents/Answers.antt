@@ -9,11 +9,11 @@ pub returns-in_err-at-clause-short : goal.returns-in_err-at-clause-short
 returns-in_err-at-clause-short g c = λ none.
     let are = c.requires.contents in
     let all = over_leaf c.args.leaf are c.requires.leaf c.requires.from c.requires.limit in
-    let rest = from_place (g.T.RangeTable.chain c.args.table.now) c.args.contents.now.behind in
+    let rest = from_place (g.T.RangeTable.chain c.args.table.now) c.args.contents.now.rest in
     omega (
       arith,
       ap length all,
-      length-append (are.listed c.args.contents.now.first) rest,
+      length-append (are.listed c.args.contents.now.innermost) rest,
       c.put_linked.ensures.short are.listed are.linked c.in_err-at.was,
     )
 
@@ -34,12 +34,12 @@ pub returns-clause-short : goal.returns-clause-short
 returns-clause-short g c = λ none.
     let are = c.requires.contents in
     let all = over_leaf c.args.leaf are c.requires.leaf c.requires.from c.requires.limit in
-    let rest = from_place (g.T.RangeTable.chain c.args.table.now) c.args.contents.now.behind in
+    let rest = from_place (g.T.RangeTable.chain c.args.table.now) c.args.contents.now.rest in
     let long : length c.put_linked.new.out ≡ length c.args.out.now = c.put_linked.ensures.same in
     omega (
       arith,
       ap length all,
-      length-append (are.listed c.args.contents.now.first) rest,
+      length-append (are.listed c.args.contents.now.innermost) rest,
       long,
       c.in_ok-at.ensures.end are.listed are.linked,
       c.put_chain.ensures.short none,

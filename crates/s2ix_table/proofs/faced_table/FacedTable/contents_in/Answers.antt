@@ -33,9 +33,9 @@ returns-clause-contents c =
           let found : IsFound (joined_ranges (covered (heavy_in t.heavy) spans)) (place_on t.offsets.items part own) leaf =
           subst (λ (p : ℕ). IsFound (joined_ranges (covered (heavy_in t.heavy) spans)) (p + own) leaf) (sym (place_of part 0 t.joined has.listed))
           (found_in part own leaf table t.joined has.listed here own_found) in
-          let light = ap (λ (s : SpanRanges). (range_at s.ranges own).contents) (sym here) ∙ sym c.first_number.ensures in
+          let light = ap (λ (s : SpanRanges). (range_at s.ranges own).contents) (sym here) ∙ sym c.innermost.ensures in
           t.table.shared (place_on t.offsets.items part own) leaf found.within odd found.start found.limit
           ∙ same_contents part own t.joined has
           ∙ ap (λ hs. hs ++ contents_at (table_of spans part).from (heavy_in t.heavy)) light
-          ∙ ap (λ hs. chain_of table.held c.first_number.result ++ hs) (sym c.over.ensures.pairs_are);
+          ∙ ap (λ hs. chain_of table.held c.innermost.result ++ hs) (sym c.over.ensures.pairs_are);
     }

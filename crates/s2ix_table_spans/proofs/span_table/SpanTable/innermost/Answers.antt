@@ -3,7 +3,7 @@ use Rattle.s2ix_table_walk.specs.Table.{range_at}
 use Rattle.s2ix_table_spans.specs.Chains.{chain_of}
 use Rattle.s2ix_table_spans.specs.SpanTable.{SpanRanges}
 use Rattle.s2ix_table_spans.proofs.Ranges.{length_ranges, range_contents, first_leads, as_many_firsts}
-use Rattle.s2ix_table_spans.proofs.span_table.SpanTable.first_number.Goals as goal
+use Rattle.s2ix_table_spans.proofs.span_table.SpanTable.innermost.Goals as goal
 
 pub index-requires : goal.index-requires
 index-requires c =
