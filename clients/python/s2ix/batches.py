@@ -220,7 +220,7 @@ class _Batch:
     def __init__(self, call: str, asked: _Asked, kind: _Kind) -> None:
         self._call, self._asked, self._kind = call, asked, kind
         numpy, self._many = _numpy(), len(asked)
-        self._ends: Any = array("q", bytes(WORD * self._many)) if numpy is None else numpy.zeros(self._many, numpy.int64)
+        self._ends: Any = array("q", bytes(WORD * self._many)) if numpy is None else numpy.empty(self._many, numpy.int64)
         self._is_over = False
 
     def found(self, index: Index, threads: int) -> tuple[Any, Any]:
@@ -316,9 +316,10 @@ def _add(ends: memoryview, before: int) -> None:
 
 
 def _memory(size: int) -> memoryview:
-    """So many bytes of zeros. From NumPy they take no time until they are written to."""
+    """So many bytes, of any value. From NumPy they take no time until they are written to, and then less than zeros do: it asks the system
+    for large pages."""
     numpy = _numpy()
-    return memoryview((ctypes.c_uint64 * -(-size // WORD))()).cast("B") if numpy is None else memoryview(numpy.zeros(size, "u1"))
+    return memoryview((ctypes.c_uint64 * -(-size // WORD))()).cast("B") if numpy is None else memoryview(numpy.empty(size, "u1"))
 
 
 def _is_whole(parts: list[memoryview]) -> bool:
