@@ -1,5 +1,5 @@
 //! Looking for the ranges that have leaves, one by one or many at once.
-ghost use Rattle.std.specs.Prelude.{◌≡◌, ◌≤◌, ◌%◌, length};
+ghost use Rattle.std.specs.Prelude.{◌≡◌, ◌≤◌, length};
 ghost use Rattle.s2id_core.specs.CellId.{level_of, raw_of};
 ghost use Rattle.s2ix_table_walk.specs.Contents.{contents_at};
 ghost use Rattle.s2ix_table_walk.specs.Places.{LeadsTo};

@@ -92,8 +92,8 @@ fn far_last(starts: &[u64], leaf: u64, among: Window) -> usize
     first
 }
 
-// The last of rising starts that is not after a leaf, searched from the place `from`, whose start isn't after it either. It tries those that are 1, 3, 7 and so on farther ahead, and
-// then looks between the last two. O(log d) for one that is d places ahead.
+// The last of rising starts that is not after a leaf, searched from the place `from`, whose start isn't after it either. It tries those that
+// are 1, 3, 7 and so on farther ahead, and then looks between the last two. O(log d) for one that is d places ahead.
 #[inline(always)]
 pub(crate) fn last_ahead(starts: &[u64], leaf: u64, from: usize) -> usize
     requires rises { AllPairs (λ a b. a < b) starts.now }
@@ -134,7 +134,7 @@ fn last_among(starts: &[u64], leaf: u64, among: Window) -> usize
 /// One step of a search among rising, odd starts for the last one that is not after a leaf: it goes on from a place by 0 to 3 times
 /// `4^digit` places, as far as the starts there are not after the leaf. Any place and any digit are accepted: a place past the end reads the
 /// last start, and without starts it stays. If there are no more than `4^d` starts, the steps from place 0 by the digits d - 1, d - 2 and so
-/// on to 0 find it, or end past the last start if that is it. No clause says so: who uses a place that was found so looks at it. No branch
+/// on to 0 find it, or end past the last start if that is it. No clause says so, since a caller looks at the place that it finds. No branch
 /// depends on a start, so the processor can take steps of many searches at once. O(1).
 #[inline(always)]
 pub fn step_ahead(starts: &[u64], leaf: u64, from: usize, digit: u32) -> usize {

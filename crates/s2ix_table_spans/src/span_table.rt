@@ -1,4 +1,4 @@
-ghost use Rattle.std.specs.Prelude.{◌≡◌, ◌-◌, ◌<◌, ◌≤◌, ◌∷◌, IfOk, IsTrue, length, drop, take, map};
+ghost use Rattle.std.specs.Prelude.{◌≡◌, ◌-◌, ◌<◌, ◌≤◌, ◌∷◌, IfOk, length, drop, map};
 ghost use Rattle.s2id_core.specs.CellId.{raw_of};
 ghost use Rattle.s2ix_bag_pairs.specs.Collection.{IsCollection};
 ghost use Rattle.s2ix_table_walk.specs.Table.{Range, range_at, IsFound};
@@ -203,7 +203,7 @@ impl SpanTable {
         self.as_place(self.innermost(k))
     }
 
-    /// The place of a range's innermost pair, or a number that is no place, how many pairs there are or more, if nothing lies over it. O(1).
+    /// The place of a range's innermost pair. If nothing lies over the range, it is a number that is at least how many pairs there are. O(1).
     #[inline]
     pub fn innermost(&self, k: usize) -> u32
         requires { k < length self.now.ranges }
@@ -212,8 +212,7 @@ impl SpanTable {
         self.firsts[k]
     }
 
-    /// Beside each pair the place of the next one outwards, or a number that is no place, how many pairs there are or more, at the outermost.
-    /// O(1).
+    /// Beside each pair the place of the next one outwards; beside an outermost pair a number that is at least how many pairs there are. O(1).
     #[inline]
     pub fn outers(&self) -> &[u32]
         ensures { AreLinked self.now.held result.now (chain_of self.now.held) }

@@ -67,7 +67,7 @@ fn leaves_of(alloc: Global, cells: &[u64]) -> Option<Vec<u64>> {
     Some(leaves)
 }
 
-// That bag with the label 9 over all of face 5: a table in parts keeps this pair apart from them.
+// That bag, and the label 9 over all of face 5: a table in parts keeps this pair beside its parts.
 fn bag_under_a_face(alloc: Global) -> Option<Bag> {
     let pair = Pair {
         cell: CellId::from_raw(0xb000000000000000)?,
@@ -149,7 +149,7 @@ fn rising_leaves_are_answered_at_once(rt: HostRuntime) {
     assert!(rt; answers_rising::<ChainTable>(rt.alloc(), &bag) == Some(true));
 }
 
-// Whether a table answers as many leaves as there is room for their ends, if there is room for fewer than leaves.
+// Whether a table answers as many of eight leaves as there is room for ends: room for fewer than eight.
 fn answers_in_little_room(alloc: Global, bag: &Bag, room: usize) -> Option<bool> {
     let table = FacedTable::build(alloc, bag).ok()?;
     let leaves = leaves_of(alloc, &[19_999, 3, 12_345, 3])?;
@@ -173,7 +173,7 @@ fn leaves_are_answered_as_far_as_there_is_room(rt: HostRuntime) {
     }
 }
 
-// Whether a table looks for these leaves, 40 of them, and puts hints that it finds each leaf by, unchanged.
+// Whether a table looks for these leaves, 40 of them, and finds each by its hint, which then stays the same.
 fn looks_for(table: &FacedTable, leaves: &[CellId]) -> bool {
     let mut hints = [LeafHint::none(); 40];
     table.look_for(leaves, &mut hints)
@@ -181,8 +181,7 @@ fn looks_for(table: &FacedTable, leaves: &[CellId]) -> bool {
             && table.contents_near(*leaf, *hint).hint == *hint)
 }
 
-// Whether a table looks for the last leaves of 40 neighbouring cells, from the last cell to the first, and puts hints that serve; for as many
-// that rise it does not look.
+// Whether a table looks for the last leaves of 40 neighbouring cells, given from the last cell to the first, but not for 40 leaves that rise.
 fn looks_side_by_side(alloc: Global, bag: &Bag, first: u64) -> Option<bool> {
     let table = FacedTable::build(alloc, bag).ok()?;
     let mut rising = Vec::new(alloc);
