@@ -73,9 +73,10 @@ pub fn equal_cells_are_one()
     ensures { (a b : CellId) → IsTrue (⟦<CellId as PartialEq>⟧.eq a b) ↔ (a ≡ b) }
 {}
 
-/// A clone of a cell is the same.
+/// A clone of a cell is the same, and cloning never fails.
 pub fn cloned_cells_are_the_same()
-    ensures { (a copy : CellId) → ⟦<CellId as Clone>⟧.is_clone a copy ↔ (copy ≡ a) }
+    ensures same { (a copy : CellId) → ⟦<CellId as Clone>⟧.is_clone a copy ↔ (copy ≡ a) }
+    ensures never_fails { (a : CellId) → ⟦<CellId as Clone>⟧.is_infallible a }
 {}
 
 /// Two faults of a token are equal exactly if they are the same.
@@ -83,9 +84,10 @@ pub fn equal_token_errors_are_one()
     ensures { (a b : TokenError) → IsTrue (⟦<TokenError as PartialEq>⟧.eq a b) ↔ (a ≡ b) }
 {}
 
-/// A clone of a fault of a token is the same.
+/// A clone of a fault of a token is the same, and cloning never fails.
 pub fn cloned_token_errors_are_the_same()
-    ensures { (a copy : TokenError) → ⟦<TokenError as Clone>⟧.is_clone a copy ↔ (copy ≡ a) }
+    ensures same { (a copy : TokenError) → ⟦<TokenError as Clone>⟧.is_clone a copy ↔ (copy ≡ a) }
+    ensures never_fails { (a : TokenError) → ⟦<TokenError as Clone>⟧.is_infallible a }
 {}
 
 /// Two refusals of memory are equal exactly if they are the same.
@@ -93,17 +95,20 @@ pub fn equal_memory_errors_are_one()
     ensures { (a b : OutOfMemory) → IsTrue (⟦<OutOfMemory as PartialEq>⟧.eq a b) ↔ (a ≡ b) }
 {}
 
-/// A clone of a refusal of memory is the same.
+/// A clone of a refusal of memory is the same, and cloning never fails.
 pub fn cloned_memory_errors_are_the_same()
-    ensures { (a copy : OutOfMemory) → ⟦<OutOfMemory as Clone>⟧.is_clone a copy ↔ (copy ≡ a) }
+    ensures same { (a copy : OutOfMemory) → ⟦<OutOfMemory as Clone>⟧.is_clone a copy ↔ (copy ≡ a) }
+    ensures never_fails { (a : OutOfMemory) → ⟦<OutOfMemory as Clone>⟧.is_infallible a }
 {}
 
-/// A clone of a token is the same.
+/// A clone of a token is the same, and cloning never fails.
 pub fn cloned_tokens_are_the_same()
-    ensures { (a copy : Token) → ⟦<Token as Clone>⟧.is_clone a copy ↔ (copy ≡ a) }
+    ensures same { (a copy : Token) → ⟦<Token as Clone>⟧.is_clone a copy ↔ (copy ≡ a) }
+    ensures never_fails { (a : Token) → ⟦<Token as Clone>⟧.is_infallible a }
 {}
 
-/// A clone of a path's text is the same.
+/// A clone of a path's text is the same, and cloning never fails.
 pub fn cloned_path_texts_are_the_same()
-    ensures { (a copy : PathText) → ⟦<PathText as Clone>⟧.is_clone a copy ↔ (copy ≡ a) }
+    ensures same { (a copy : PathText) → ⟦<PathText as Clone>⟧.is_clone a copy ↔ (copy ≡ a) }
+    ensures never_fails { (a : PathText) → ⟦<PathText as Clone>⟧.is_infallible a }
 {}

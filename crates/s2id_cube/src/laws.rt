@@ -68,9 +68,10 @@ pub fn equal_squares_are_one()
     ensures { (a b : FaceIj) → IsTrue (⟦<FaceIj as PartialEq>⟧.eq a b) ↔ (a ≡ b) }
 {}
 
-/// A clone of a square is the same.
+/// A clone of a square is the same, and cloning never fails.
 pub fn cloned_squares_are_the_same()
-    ensures { (a copy : FaceIj) → ⟦<FaceIj as Clone>⟧.is_clone a copy ↔ (copy ≡ a) }
+    ensures same { (a copy : FaceIj) → ⟦<FaceIj as Clone>⟧.is_clone a copy ↔ (copy ≡ a) }
+    ensures never_fails { (a : FaceIj) → ⟦<FaceIj as Clone>⟧.is_infallible a }
 {}
 
 /// Two refusals of a border are equal exactly if they are the same.
@@ -78,7 +79,8 @@ pub fn equal_border_errors_are_one()
     ensures { (a b : BorderError) → IsTrue (⟦<BorderError as PartialEq>⟧.eq a b) ↔ (a ≡ b) }
 {}
 
-/// A clone of a refusal of a border is the same.
+/// A clone of a refusal of a border is the same, and cloning never fails.
 pub fn cloned_border_errors_are_the_same()
-    ensures { (a copy : BorderError) → ⟦<BorderError as Clone>⟧.is_clone a copy ↔ (copy ≡ a) }
+    ensures same { (a copy : BorderError) → ⟦<BorderError as Clone>⟧.is_clone a copy ↔ (copy ≡ a) }
+    ensures never_fails { (a : BorderError) → ⟦<BorderError as Clone>⟧.is_infallible a }
 {}

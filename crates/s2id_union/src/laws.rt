@@ -67,7 +67,8 @@ pub fn equal_range_errors_are_one()
     ensures { (a b : RangeError) → IsTrue (⟦<RangeError as PartialEq>⟧.eq a b) ↔ (a ≡ b) }
 {}
 
-/// A clone of a refusal of a span is the same.
+/// A clone of a refusal of a span is the same, and cloning never fails.
 pub fn cloned_range_errors_are_the_same()
-    ensures { (a copy : RangeError) → ⟦<RangeError as Clone>⟧.is_clone a copy ↔ (copy ≡ a) }
+    ensures same { (a copy : RangeError) → ⟦<RangeError as Clone>⟧.is_clone a copy ↔ (copy ≡ a) }
+    ensures never_fails { (a : RangeError) → ⟦<RangeError as Clone>⟧.is_infallible a }
 {}

@@ -24,7 +24,8 @@ pub fn equal_replay_errors_are_one()
     ensures { (a b : ReplayError) → IsTrue (⟦<ReplayError as PartialEq>⟧.eq a b) ↔ (a ≡ b) }
 {}
 
-/// A clone of a refusal of a list of changes is the same.
+/// A clone of a refusal of a list of changes is the same, and cloning never fails.
 pub fn cloned_replay_errors_are_the_same()
-    ensures { (a copy : ReplayError) → ⟦<ReplayError as Clone>⟧.is_clone a copy ↔ (copy ≡ a) }
+    ensures same { (a copy : ReplayError) → ⟦<ReplayError as Clone>⟧.is_clone a copy ↔ (copy ≡ a) }
+    ensures never_fails { (a : ReplayError) → ⟦<ReplayError as Clone>⟧.is_infallible a }
 {}

@@ -27,7 +27,8 @@ pub fn cloned_changes_are_the_same()
     ensures { (change copy : List Entry) → ⟦<Change as Clone>⟧.is_clone change copy ↔ (copy ≡ change) }
 {}
 
-/// A clone of an iterator over the pairs of a label has the same still to come.
+/// A clone of an iterator over the pairs of a label has the same still to come, and cloning never fails.
 pub fn cloned_label_iterators_have_the_same_rest<'a>()
-    ensures { (it copy : Collection) → ⟦<LabelIter<'a> as Clone>⟧.is_clone it copy → copy ≡ it }
+    ensures same { (it copy : Collection) → ⟦<LabelIter<'a> as Clone>⟧.is_clone it copy → copy ≡ it }
+    ensures never_fails { (it : Collection) → ⟦<LabelIter<'a> as Clone>⟧.is_infallible it }
 {}

@@ -36,16 +36,20 @@ pub fn equal_errors_are_one()
     ensures change { (a b : ChangeError) → IsTrue (⟦<ChangeError as PartialEq>⟧.eq a b) ↔ (a ≡ b) }
 {}
 
-/// An error's clone is that error.
+/// An error's clone is that error, and cloning never fails.
 pub fn cloned_errors_are_the_same()
     ensures apply { (error copy : ApplyError) → ⟦<ApplyError as Clone>⟧.is_clone error copy ↔ (copy ≡ error) }
+    ensures never_fails_apply { (error : ApplyError) → ⟦<ApplyError as Clone>⟧.is_infallible error }
     ensures revert { (error copy : RevertError) → ⟦<RevertError as Clone>⟧.is_clone error copy ↔ (copy ≡ error) }
+    ensures never_fails_revert { (error : RevertError) → ⟦<RevertError as Clone>⟧.is_infallible error }
     ensures change { (error copy : ChangeError) → ⟦<ChangeError as Clone>⟧.is_clone error copy ↔ (copy ≡ error) }
+    ensures never_fails_change { (error : ChangeError) → ⟦<ChangeError as Clone>⟧.is_infallible error }
 {}
 
-/// The clone of a flat held pair stands for the same held pair.
+/// The clone of a flat held pair stands for the same held pair, and cloning never fails.
 pub fn cloned_flat_pairs_are_the_same()
-    ensures { (held copy : Held) → ⟦<FlatHeld as Clone>⟧.is_clone held copy ↔ (copy ≡ held) }
+    ensures same { (held copy : Held) → ⟦<FlatHeld as Clone>⟧.is_clone held copy ↔ (copy ≡ held) }
+    ensures never_fails { (held : Held) → ⟦<FlatHeld as Clone>⟧.is_infallible held }
 {}
 
 /// Two lists of held pairs are equal exactly if they hold the same pairs with the same counts.
@@ -68,7 +72,8 @@ pub fn cloned_lists_are_the_same()
     ensures { (lists copy : Collection) → ⟦<FaceLists as Clone>⟧.is_clone lists copy ↔ (copy ≡ lists) }
 {}
 
-/// A clone of an iterator over held pairs has the same still to come.
+/// A clone of an iterator over held pairs has the same still to come, and cloning never fails.
 pub fn cloned_held_iterators_have_the_same_rest<'a>()
-    ensures { (it copy : Collection) → ⟦<HeldIter<'a> as Clone>⟧.is_clone it copy → copy ≡ it }
+    ensures same { (it copy : Collection) → ⟦<HeldIter<'a> as Clone>⟧.is_clone it copy → copy ≡ it }
+    ensures never_fails { (it : Collection) → ⟦<HeldIter<'a> as Clone>⟧.is_infallible it }
 {}

@@ -92,9 +92,10 @@ pub fn equal_pairs_are_one()
     ensures { (a b : Pair) → IsTrue (⟦<Pair as PartialEq>⟧.eq a b) ↔ (a ≡ b) }
 {}
 
-/// A clone of a pair is the same.
+/// A clone of a pair is the same, and cloning never fails.
 pub fn cloned_pairs_are_the_same()
-    ensures { (a copy : Pair) → ⟦<Pair as Clone>⟧.is_clone a copy ↔ (copy ≡ a) }
+    ensures same { (a copy : Pair) → ⟦<Pair as Clone>⟧.is_clone a copy ↔ (copy ≡ a) }
+    ensures never_fails { (a : Pair) → ⟦<Pair as Clone>⟧.is_infallible a }
 {}
 
 /// Two held pairs are equal exactly if they are the same.
@@ -102,9 +103,10 @@ pub fn equal_held_pairs_are_one()
     ensures { (a b : Held) → IsTrue (⟦<Held as PartialEq>⟧.eq a b) ↔ (a ≡ b) }
 {}
 
-/// A clone of a held pair is the same.
+/// A clone of a held pair is the same, and cloning never fails.
 pub fn cloned_held_pairs_are_the_same()
-    ensures { (a copy : Held) → ⟦<Held as Clone>⟧.is_clone a copy ↔ (copy ≡ a) }
+    ensures same { (a copy : Held) → ⟦<Held as Clone>⟧.is_clone a copy ↔ (copy ≡ a) }
+    ensures never_fails { (a : Held) → ⟦<Held as Clone>⟧.is_infallible a }
 {}
 
 /// Two entries are equal exactly if they are the same.
@@ -112,9 +114,10 @@ pub fn equal_entries_are_one()
     ensures { (a b : Entry) → IsTrue (⟦<Entry as PartialEq>⟧.eq a b) ↔ (a ≡ b) }
 {}
 
-/// A clone of an entry is the same.
+/// A clone of an entry is the same, and cloning never fails.
 pub fn cloned_entries_are_the_same()
-    ensures { (a copy : Entry) → ⟦<Entry as Clone>⟧.is_clone a copy ↔ (copy ≡ a) }
+    ensures same { (a copy : Entry) → ⟦<Entry as Clone>⟧.is_clone a copy ↔ (copy ≡ a) }
+    ensures never_fails { (a : Entry) → ⟦<Entry as Clone>⟧.is_infallible a }
 {}
 
 /// Two labels are equal exactly if they are the same.
@@ -122,9 +125,10 @@ pub fn equal_labels_are_one()
     ensures { (a b : Label) → IsTrue (⟦<Label as PartialEq>⟧.eq a b) ↔ (a ≡ b) }
 {}
 
-/// A clone of a label is the same.
+/// A clone of a label is the same, and cloning never fails.
 pub fn cloned_labels_are_the_same()
-    ensures { (a copy : Label) → ⟦<Label as Clone>⟧.is_clone a copy ↔ (copy ≡ a) }
+    ensures same { (a copy : Label) → ⟦<Label as Clone>⟧.is_clone a copy ↔ (copy ≡ a) }
+    ensures never_fails { (a : Label) → ⟦<Label as Clone>⟧.is_infallible a }
 {}
 
 /// Two limits are equal exactly if they are the same.
@@ -132,7 +136,8 @@ pub fn equal_limits_are_one()
     ensures { (a b : Limits) → IsTrue (⟦<Limits as PartialEq>⟧.eq a b) ↔ (a ≡ b) }
 {}
 
-/// A clone of limits is the same.
+/// A clone of limits is the same, and cloning never fails.
 pub fn cloned_limits_are_the_same()
-    ensures { (a copy : Limits) → ⟦<Limits as Clone>⟧.is_clone a copy ↔ (copy ≡ a) }
+    ensures same { (a copy : Limits) → ⟦<Limits as Clone>⟧.is_clone a copy ↔ (copy ≡ a) }
+    ensures never_fails { (a : Limits) → ⟦<Limits as Clone>⟧.is_infallible a }
 {}

@@ -1,6 +1,7 @@
-//! Bags in parts of at most four pairs, so that edits split parts and join them, beside bags in long parts.
+//! How long the parts of bags are, which no clause says; and bags in parts of at most four pairs, so that edits split parts and join them,
+//! beside bags in long parts.
 use s2id_samples::SET_UP;
-use s2ix_bag::{Bag, Change, Entry, Pair};
+use s2ix_bag::{Bag, Change, Entry, Label, Pair};
 use s2ix_bag_samples::{WIDEST, limits_of, pair_of};
 use std::alloc::Global;
 use std::process::Abort;
@@ -29,6 +30,16 @@ fn change_of_pair(alloc: Global, bag: &Bag, pair: Pair, after: u32) -> Option<Ch
         }],
     )
     .ok()
+}
+
+// Whether each part of a bag has at most so many pairs.
+fn has_parts_of(bag: &Bag, most: usize) -> bool {
+    for place in 0..bag.len() {
+        if bag.part_at(place).1.as_slice().len() > most {
+            return false;
+        }
+    }
+    true
 }
 
 // Whether two bags hold the same, asked in each way.
@@ -73,7 +84,7 @@ fn check_edits(rt: &impl Abort, alloc: Global, parts: &Bag, plain: &Bag) {
         };
         here = here.applied(alloc, &change).expect(rt, SET_UP);
         there = there.applied(alloc, &change).expect(rt, SET_UP);
-        assert!(rt; are_same(&here, &there));
+        assert!(rt; are_same(&here, &there) && has_parts_of(&here, 4));
     }
 }
 
@@ -83,4 +94,56 @@ fn lists_in_short_parts_are_lists(rt: HostRuntime) {
     let parts = Bag::in_parts_of(rt.alloc(), limits, 4);
     let plain = Bag::empty(rt.alloc(), limits);
     check_edits(&rt, rt.alloc(), &parts, &plain);
+}
+
+// The bag of a cell under so many labels, made by one change.
+fn bag_of_labels(alloc: Global, count: u32) -> Option<Bag> {
+    let cell = pair_of("04:0")?.cell;
+    let mut entries = Vec::new(alloc);
+    for k in 0..count {
+        let label = Label::new(k)?;
+        let entry = Entry {
+            pair: Pair { cell, label },
+            before: 0,
+            after: 1,
+        };
+        entries.push(entry).ok()?;
+    }
+    let change = Change::from_entries(alloc, &entries).ok()?;
+    Bag::empty(alloc, limits_of(WIDEST)?)
+        .applied(alloc, &change)
+        .ok()
+}
+
+// The same bag, made of the list of its pairs.
+fn listed_anew(alloc: Global, bag: &Bag) -> Option<Bag> {
+    let held = bag.flat(alloc).ok()?;
+    Bag::from_held(alloc, bag.limits(), &held).ok()
+}
+
+// A bag with one label more for that cell.
+fn with_label(alloc: Global, bag: &Bag, label: u32) -> Option<Bag> {
+    let pair = Pair {
+        cell: pair_of("04:0")?.cell,
+        label: Label::new(label)?,
+    };
+    let change = change_of_pair(alloc, bag, pair, 1)?;
+    bag.applied(alloc, &change).ok()
+}
+
+// Whether a bag of so many pairs has parts of at most 512.
+fn is_cut(bag: &Bag, len: usize) -> bool {
+    bag.len() == len && has_parts_of(bag, 512)
+}
+
+#[test]
+fn a_part_has_at_most_512_pairs(rt: HostRuntime) {
+    let full = bag_of_labels(rt.alloc(), 512).expect(&rt, SET_UP);
+    assert!(rt; is_cut(&full, 512) && !has_parts_of(&full, 511));
+    let grown = with_label(rt.alloc(), &full, 512).expect(&rt, SET_UP);
+    assert!(rt; is_cut(&grown, 513));
+    let made = bag_of_labels(rt.alloc(), 513).expect(&rt, SET_UP);
+    assert!(rt; is_cut(&made, 513));
+    let listed = listed_anew(rt.alloc(), &made).expect(&rt, SET_UP);
+    assert!(rt; is_cut(&listed, 513));
 }

@@ -30,9 +30,10 @@ pub fn equal_run_ends_are_one()
     ensures { (a b : RunEnd) → IsTrue (⟦<RunEnd as PartialEq>⟧.eq a b) ↔ (a ≡ b) }
 {}
 
-/// A clone of a run's end is the same.
+/// A clone of a run's end is the same, and cloning never fails.
 pub fn cloned_run_ends_are_the_same()
-    ensures { (a copy : RunEnd) → ⟦<RunEnd as Clone>⟧.is_clone a copy ↔ (copy ≡ a) }
+    ensures same { (a copy : RunEnd) → ⟦<RunEnd as Clone>⟧.is_clone a copy ↔ (copy ≡ a) }
+    ensures never_fails { (a : RunEnd) → ⟦<RunEnd as Clone>⟧.is_infallible a }
 {}
 
 /// Two runs' options are equal exactly if they are the same.
@@ -40,9 +41,10 @@ pub fn equal_run_options_are_one()
     ensures { (a b : RunOptions) → IsTrue (⟦<RunOptions as PartialEq>⟧.eq a b) ↔ (a ≡ b) }
 {}
 
-/// A clone of a run's options is the same.
+/// A clone of a run's options is the same, and cloning never fails.
 pub fn cloned_run_options_are_the_same()
-    ensures { (a copy : RunOptions) → ⟦<RunOptions as Clone>⟧.is_clone a copy ↔ (copy ≡ a) }
+    ensures same { (a copy : RunOptions) → ⟦<RunOptions as Clone>⟧.is_clone a copy ↔ (copy ≡ a) }
+    ensures never_fails { (a : RunOptions) → ⟦<RunOptions as Clone>⟧.is_infallible a }
 {}
 
 /// Two outcomes of lines are equal exactly if they are the same.
@@ -50,7 +52,8 @@ pub fn equal_line_outcomes_are_one()
     ensures { (a b : LineOutcome) → IsTrue (⟦<LineOutcome as PartialEq>⟧.eq a b) ↔ (a ≡ b) }
 {}
 
-/// A clone of a line's outcome is the same.
+/// A clone of a line's outcome is the same, and cloning never fails.
 pub fn cloned_line_outcomes_are_the_same()
-    ensures { (a copy : LineOutcome) → ⟦<LineOutcome as Clone>⟧.is_clone a copy ↔ (copy ≡ a) }
+    ensures same { (a copy : LineOutcome) → ⟦<LineOutcome as Clone>⟧.is_clone a copy ↔ (copy ≡ a) }
+    ensures never_fails { (a : LineOutcome) → ⟦<LineOutcome as Clone>⟧.is_infallible a }
 {}

@@ -114,9 +114,10 @@ pub fn equal_refusals_are_one()
     ensures { (a b : Refusal) → IsTrue (⟦<Refusal as PartialEq>⟧.eq a b) ↔ (a ≡ b) }
 {}
 
-/// A clone of a refusal is the same.
+/// A clone of a refusal is the same, and cloning never fails.
 pub fn cloned_refusals_are_the_same()
-    ensures { (a copy : Refusal) → ⟦<Refusal as Clone>⟧.is_clone a copy ↔ (copy ≡ a) }
+    ensures same { (a copy : Refusal) → ⟦<Refusal as Clone>⟧.is_clone a copy ↔ (copy ≡ a) }
+    ensures never_fails { (a : Refusal) → ⟦<Refusal as Clone>⟧.is_infallible a }
 {}
 
 /// Two errors of texts are equal exactly if they are the same.
@@ -124,7 +125,8 @@ pub fn equal_texts_errors_are_one()
     ensures { (a b : TextsError) → IsTrue (⟦<TextsError as PartialEq>⟧.eq a b) ↔ (a ≡ b) }
 {}
 
-/// A clone of an error of texts is the same.
+/// A clone of an error of texts is the same, and cloning never fails.
 pub fn cloned_texts_errors_are_the_same()
-    ensures { (a copy : TextsError) → ⟦<TextsError as Clone>⟧.is_clone a copy ↔ (copy ≡ a) }
+    ensures same { (a copy : TextsError) → ⟦<TextsError as Clone>⟧.is_clone a copy ↔ (copy ≡ a) }
+    ensures never_fails { (a : TextsError) → ⟦<TextsError as Clone>⟧.is_infallible a }
 {}

@@ -1,10 +1,11 @@
 //! What texts come to.
-ghost use Rattle.std.specs.Prelude.{◌≡◌, None, Ok, IfErr, IfOk, OnOk};
-ghost use Rattle.s2ix_bag.specs.Replay.{rewind_refusal};
+ghost use Rattle.std.specs.Prelude.{◌≡◌, None, Ok, IfErr, IfOk, OnOk, take};
+ghost use Rattle.s2ix_bag.specs.Replay.{first_refusal, rewind_refusal, way_back, with_numbers};
 ghost use Rattle.s2ix_bag_pairs.specs.Collection.{LimitedCollection};
 ghost use Rattle.s2ix_bag_pairs.specs.Limits.{changes_limit};
 ghost use Rattle.s2ix_edit.specs.Given.{led_by, record_refusal};
 ghost use Rattle.s2ix_text.specs.DumpFaults.{dump_fault};
+ghost use Rattle.s2ix_text.specs.JournalFaults.{journal_fault};
 ghost use Rattle.s2ix_text_parts.specs.LineFaults.{IsFromLine};
 ghost use Rattle.s2ix_cli_files.specs.Reads.{DumpReads, JournalReads, Resumes, RewindLeads, SecondReads, TextsDiffer, TextsReplay, TextsRewind};
 ghost use Rattle.s2ix_cli_files.specs.Refusals.{IsRefusedBy, IsWantOf};
@@ -31,6 +32,7 @@ pub(crate) fn dump_read(alloc: Global, text: &[u8], limits: Limits) -> Result<Ba
 fn journal_read(alloc: Global, text: &[u8], limits: Limits) -> Result<Vec<Change>, TextsError>
     ensures changes { IfOk result (λ changes. JournalReads limits text.now (Ok changes.items)) }
     ensures refused { IfErr result (IsRefusedBy (JournalReads limits text.now)) }
+    ensures memory { IfErr result (IsWantOf (IsFromLine 2 (journal_fault limits text.now))) }
 {
     Ok(read_journal(alloc, text, limits)?)
 }
@@ -90,6 +92,7 @@ fn store_led(alloc: Global, bag: Bag, changes: Vec<Change>) -> Result<Store, Tex
     ensures store { IfOk result (λ store. store ≡ led_by bag changes.items) }
     ensures accepted { OnOk result (rewind_refusal bag changes.items ≡ None) }
     ensures refused { IfErr result (IsRefusedBy (RewindLeads bag changes.items)) }
+    ensures memory { IfErr result (IsWantOf (first_refusal bag (take 1 (way_back (with_numbers changes.items))) ≡ None)) }
 {
     match Store::with_history(alloc, bag, changes) {
         Ok(store) => Ok(store),
@@ -112,6 +115,7 @@ fn store_led(alloc: Global, bag: Bag, changes: Vec<Change>) -> Result<Store, Tex
 fn second_read(alloc: Global, text: &[u8], limits: Limits) -> Result<Bag, TextsError>
     ensures bag { IfOk result (λ bag. SecondReads limits text.now (Ok bag)) }
     ensures refused { IfErr result (IsRefusedBy (SecondReads limits text.now)) }
+    ensures memory { IfErr result (IsWantOf (IsFromLine 2 (dump_fault limits text.now))) }
 {
     match read_dump(alloc, text, limits) {
         Ok(bag) => Ok(bag),

@@ -14,9 +14,10 @@ pub fn equal_line_faults_are_one()
     ensures { (a b : LineFault) → IsTrue (⟦<LineFault as PartialEq>⟧.eq a b) ↔ (a ≡ b) }
 {}
 
-/// A clone of a line's fault is the same.
+/// A clone of a line's fault is the same, and cloning never fails.
 pub fn cloned_line_faults_are_the_same()
-    ensures { (a copy : LineFault) → ⟦<LineFault as Clone>⟧.is_clone a copy ↔ (copy ≡ a) }
+    ensures same { (a copy : LineFault) → ⟦<LineFault as Clone>⟧.is_clone a copy ↔ (copy ≡ a) }
+    ensures never_fails { (a : LineFault) → ⟦<LineFault as Clone>⟧.is_infallible a }
 {}
 
 /// Two errors of lines are equal exactly if they are the same.
@@ -24,9 +25,10 @@ pub fn equal_line_errors_are_one()
     ensures { (a b : LineError) → IsTrue (⟦<LineError as PartialEq>⟧.eq a b) ↔ (a ≡ b) }
 {}
 
-/// A clone of a line's error is the same.
+/// A clone of a line's error is the same, and cloning never fails.
 pub fn cloned_line_errors_are_the_same()
-    ensures { (a copy : LineError) → ⟦<LineError as Clone>⟧.is_clone a copy ↔ (copy ≡ a) }
+    ensures same { (a copy : LineError) → ⟦<LineError as Clone>⟧.is_clone a copy ↔ (copy ≡ a) }
+    ensures never_fails { (a : LineError) → ⟦<LineError as Clone>⟧.is_infallible a }
 {}
 
 /// Two instructions are equal exactly if they are the same.

@@ -22,9 +22,10 @@ pub fn fields_stand_in_order()
     ensures { (line : List ℕ) → AreInLineOrder (fields_of line) line }
 {}
 
-/// A clone of a line's fields has the same still to come.
+/// A clone of a line's fields has the same still to come, and cloning never fails.
 pub fn cloned_fields_have_the_same_rest<'a>()
-    ensures { (fields copy : List (List ℕ)) → ⟦<Fields<'a> as Clone>⟧.is_clone fields copy ↔ (copy ≡ fields) }
+    ensures same { (fields copy : List (List ℕ)) → ⟦<Fields<'a> as Clone>⟧.is_clone fields copy ↔ (copy ≡ fields) }
+    ensures never_fails { (fields : List (List ℕ)) → ⟦<Fields<'a> as Clone>⟧.is_infallible fields }
 {}
 
 /// Two ends of the program are equal exactly if they are the same.
@@ -32,7 +33,8 @@ pub fn equal_endings_are_one()
     ensures { (a b : Ending) → IsTrue (⟦<Ending as PartialEq>⟧.eq a b) ↔ (a ≡ b) }
 {}
 
-/// A clone of an end of the program is the same.
+/// A clone of an end of the program is the same, and cloning never fails.
 pub fn cloned_endings_are_the_same()
-    ensures { (a copy : Ending) → ⟦<Ending as Clone>⟧.is_clone a copy ↔ (copy ≡ a) }
+    ensures same { (a copy : Ending) → ⟦<Ending as Clone>⟧.is_clone a copy ↔ (copy ≡ a) }
+    ensures never_fails { (a : Ending) → ⟦<Ending as Clone>⟧.is_infallible a }
 {}

@@ -1,10 +1,10 @@
 -- What each step of a store makes of its state.
-use Rattle.std.specs.Prelude.{◌≡◌, ℕ, ◌-◌, Option, Some, None, List, [], ◌∷◌, ◌++◌, length, take, drop, slice_get, count_by}
+use Rattle.std.specs.Prelude.{◌≡◌, ℕ, ◌-◌, Option, Some, None, List, [], ◌∷◌, ◌++◌, length, take, drop, slice_get}
 use Rattle.s2ix_bag_pairs.specs.declared.pair.Entry.{Entry}
 use Rattle.s2ix_bag_pairs.specs.declared.pair.Held.{Held}
 use Rattle.s2ix_bag_pairs.specs.Change.{change_between, changed, inverse_of}
 use Rattle.s2ix_bag_pairs.specs.Collection.{Collection, LimitedCollection}
-use Rattle.s2ix_table.specs.Faces.{faces, has_entry_on}
+pub use Rattle.s2ix_table.specs.Faces.{faces_of}
 use Rattle.s2ix_edit_plan.specs.declared.edit.Edit.{Edit}
 use Rattle.s2ix_edit_plan.specs.Edit.{edited}
 use Rattle.s2ix_edit_plan.specs.Removals.{removal_change, without_rows}
@@ -15,10 +15,6 @@ use Rattle.s2ix_edit.specs.Shortened.{steps_before}
 -- a bag with another collection
 abbrev pub with_held : LimitedCollection → Collection → LimitedCollection
 with_held bag hs = record { limits = bag.limits; held = hs }
-
--- on how many faces a change has entries
-abbrev pub faces_of : List Entry → ℕ
-faces_of es = count_by (has_entry_on es) faces
 
 -- the store after an accepted edit
 abbrev pub after_edit : State → Edit → State

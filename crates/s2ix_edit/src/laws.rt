@@ -42,11 +42,14 @@ pub fn equal_errors_are_one()
     ensures join { (a b : JoinError) → IsTrue (⟦<JoinError as PartialEq>⟧.eq a b) ↔ (a ≡ b) }
 {}
 
-/// An error's clone is that error.
+/// An error's clone is that error, and cloning never fails.
 pub fn cloned_errors_are_the_same()
     ensures history { (error copy : HistoryError) → ⟦<HistoryError as Clone>⟧.is_clone error copy ↔ (copy ≡ error) }
+    ensures never_fails_history { (error : HistoryError) → ⟦<HistoryError as Clone>⟧.is_infallible error }
     ensures record_change { (error copy : RecordError) → ⟦<RecordError as Clone>⟧.is_clone error copy ↔ (copy ≡ error) }
+    ensures never_fails_record_change { (error : RecordError) → ⟦<RecordError as Clone>⟧.is_infallible error }
     ensures join { (error copy : JoinError) → ⟦<JoinError as Clone>⟧.is_clone error copy ↔ (copy ≡ error) }
+    ensures never_fails_join { (error : JoinError) → ⟦<JoinError as Clone>⟧.is_infallible error }
 {}
 
 /// Two held labels are equal exactly if they are the same.
@@ -54,9 +57,10 @@ pub fn equal_held_labels_are_one()
     ensures { (a b : HeldLabel) → IsTrue (⟦<HeldLabel as PartialEq>⟧.eq a b) ↔ (a ≡ b) }
 {}
 
-/// A clone of a held label is the same.
+/// A clone of a held label is the same, and cloning never fails.
 pub fn cloned_held_labels_are_the_same()
-    ensures { (a copy : HeldLabel) → ⟦<HeldLabel as Clone>⟧.is_clone a copy ↔ (copy ≡ a) }
+    ensures same { (a copy : HeldLabel) → ⟦<HeldLabel as Clone>⟧.is_clone a copy ↔ (copy ≡ a) }
+    ensures never_fails { (a : HeldLabel) → ⟦<HeldLabel as Clone>⟧.is_infallible a }
 {}
 
 /// The change that an edit records has the two counts of exactly the pairs whose counts the edit changes.

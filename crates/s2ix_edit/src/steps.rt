@@ -2,13 +2,13 @@
 //! are read again; and a change that is shifted from one list to the other. What can want memory comes first, the table last of it.
 
 ghost use Rattle.std.specs.Prelude.{◌≡◌, ◌<◌, ◌≤◌, ◌+◌, ◌-◌, ◌*◌, drop, length, None, IfOk, IfErr, OnOk, OnErr, vec_capacity, vec_len};
-ghost use Rattle.s2id_core.specs.BinaryDigits.{binary_digits};
 ghost use Rattle.s2ix_bag_lists.specs.Apply.{apply_refusal, first_mismatch};
 ghost use Rattle.s2ix_bag_pairs.specs.Change.{changed};
 ghost use Rattle.s2ix_bag_pairs.specs.Collection.{IsBag};
 ghost use Rattle.s2ix_edit_plan.specs.Errors.{IsEditRefusal};
 ghost use Rattle.s2ix_edit_plan.specs.Plan.{entries_refusal};
-ghost use Rattle.s2ix_table.specs.Faces.{changed_count};
+ghost use Rattle.s2ix_table.specs.Faces.{changed_count, faces_of};
+ghost use Rattle.s2ix_table.specs.Reading.{two_searches};
 ghost use Rattle.s2ix_edit.specs.Steps.{IsShifted, with_held};
 
 use crate::store_table::StoreTable;
@@ -21,7 +21,7 @@ use s2ix_table_queries::RangeTable;
 use std::alloc::Global;
 
 // Makes a table that of a bag to which a change has led from the table's bag, and returns how many pairs were read for it. With p pairs on the
-// faces of the change and n in all, p to p + 12 * digits(n + 1) pairs are read. If a growth is refused the table stays.
+// f faces of the change and n in all, p to p + 2 * f * digits(n + 1) pairs are read. If a growth is refused the table stays.
 pub(crate) fn rebuild_for(
     alloc: Global,
     table: &mut StoreTable,
@@ -33,7 +33,7 @@ pub(crate) fn rebuild_for(
     ensures stays { OnErr result (⟦<StoreTable as RangeTable>⟧.pairs table.new ≡ ⟦<StoreTable as RangeTable>⟧.pairs table.old) }
     ensures reads_all { IfOk result (λ reads. changed_count change.now bag.now.held ≤ reads) }
     ensures reads_few { IfOk result (λ reads.
-        reads ≤ changed_count change.now bag.now.held + 12 * binary_digits (length bag.now.held + 1)) }
+        reads ≤ changed_count change.now bag.now.held + faces_of change.now * two_searches bag.now.held) }
 {
     let mut reader = BagReader::new(bag);
     table.rebuild(alloc, &mut reader, change)?;

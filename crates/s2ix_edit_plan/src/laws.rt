@@ -205,10 +205,14 @@ pub fn equal_errors_are_one()
     ensures redo { (a b : RedoError) → IsTrue (⟦<RedoError as PartialEq>⟧.eq a b) ↔ (a ≡ b) }
 {}
 
-/// An error's clone is that error.
+/// An error's clone is that error, and cloning never fails.
 pub fn cloned_errors_are_the_same()
     ensures edit { (error copy : EditError) → ⟦<EditError as Clone>⟧.is_clone error copy ↔ (copy ≡ error) }
+    ensures never_fails_edit { (error : EditError) → ⟦<EditError as Clone>⟧.is_infallible error }
     ensures remove { (error copy : RemoveError) → ⟦<RemoveError as Clone>⟧.is_clone error copy ↔ (copy ≡ error) }
+    ensures never_fails_remove { (error : RemoveError) → ⟦<RemoveError as Clone>⟧.is_infallible error }
     ensures undo { (error copy : UndoError) → ⟦<UndoError as Clone>⟧.is_clone error copy ↔ (copy ≡ error) }
+    ensures never_fails_undo { (error : UndoError) → ⟦<UndoError as Clone>⟧.is_infallible error }
     ensures redo { (error copy : RedoError) → ⟦<RedoError as Clone>⟧.is_clone error copy ↔ (copy ≡ error) }
+    ensures never_fails_redo { (error : RedoError) → ⟦<RedoError as Clone>⟧.is_infallible error }
 {}

@@ -1,9 +1,11 @@
 //! Histories that are cut short, taken up again, joined and passed on to another store.
 use s2ix_bag::{Bag, Limits};
 use s2ix_bag_samples::{
-    LimitRow, WIDEST, are_changes, bag_of, change_of, changes_of, holds_pairs, pair_of,
+    LimitRow, WIDEST, are_changes, bag_of, change_of, changes_of, holds_pairs, limits_of, pair_of,
 };
-use s2ix_edit::{Edit, HistoryError, JoinError, RecordError, RedoError, Store, UndoError};
+use s2ix_edit::{
+    Edit, EditError, HistoryError, JoinError, RecordError, RedoError, Store, UndoError,
+};
 use std::alloc::Global;
 
 // A store that was given 2, then 3, then 4 copies of a pair, and took the last back.
@@ -17,10 +19,20 @@ fn edited(alloc: Global, limits: Limits) -> Option<Store> {
     Some(store)
 }
 
-// A store of these pairs to which these changes led.
-fn led(alloc: Global, pairs: &str, texts: &[&str]) -> Option<Result<Store, HistoryError>> {
-    let bag: Bag = bag_of(alloc, WIDEST, pairs)?;
+// A store of these pairs to which these changes led, under limits.
+fn led_within(
+    alloc: Global,
+    limits: LimitRow,
+    pairs: &str,
+    texts: &[&str],
+) -> Option<Result<Store, HistoryError>> {
+    let bag: Bag = bag_of(alloc, limits, pairs)?;
     Some(Store::with_history(alloc, bag, changes_of(alloc, texts)?))
+}
+
+// The same under the widest limits.
+fn led(alloc: Global, pairs: &str, texts: &[&str]) -> Option<Result<Store, HistoryError>> {
+    led_within(alloc, WIDEST, pairs, texts)
 }
 
 #[test]
@@ -75,6 +87,38 @@ fn a_history_must_lead_to_its_bag(rt: HostRuntime) {
         refusal("04:9:5", &["04:9:0:2", "", "04:9:2:4"])
             == Some(Some(HistoryError::NoChange { change: 2 }))
     );
+}
+
+#[test]
+fn a_history_stays_within_the_limits(rt: HostRuntime) {
+    let refusal = |pairs: &str, texts: &[&str]| led_within(rt.alloc(), (2, 5, 9), pairs, texts).map(
+        |made| made.err(),
+    );
+    assert!(rt;
+        refusal("04:9:3 1:3:1", &["0c:7:1:0"])
+            == Some(Some(HistoryError::TooManyPairs { change: 1 }))
+    );
+    assert!(rt;
+        refusal("04:9:3 1:3:1", &["0c:7:1:0", "04:9:2:3"])
+            == Some(Some(HistoryError::TooManyPairs { change: 1 }))
+    );
+    assert!(rt;
+        refusal("04:9:5", &["04:9:6:5"]) == Some(Some(HistoryError::TooManyCopies { change: 1 }))
+    );
+    assert!(rt;
+        refusal("04:9:5", &["04:9:6:4", "04:9:4:5"])
+            == Some(Some(HistoryError::TooManyCopies { change: 1 }))
+    );
+}
+
+#[test]
+fn a_full_journal_is_redone(rt: HostRuntime) {
+    let limits = limits_of((2, 5, 1)).expect(&rt, "limits");
+    let mut store = Store::new(rt.alloc(), limits).expect(&rt, "a store");
+    let pair = pair_of("04:9").expect(&rt, "a pair");
+    assert!(rt; store.edit(&Edit::Add { pair, copies: 2 }) == Ok(1));
+    assert!(rt; store.undo() == Ok(1) && store.redo() == Ok(1));
+    assert!(rt; store.edit(&Edit::Add { pair, copies: 2 }) == Err(EditError::JournalFull));
 }
 
 #[test]
@@ -171,6 +215,32 @@ fn given_changes_count_together(rt: HostRuntime) {
     let back = changes_of(rt.alloc(), &["5:2:6:7", "5:2:7:6"]).expect(&rt, "changes");
     assert!(rt; store.apply(back) == Ok(0) && store.faces_rebuilt() == 0);
     assert!(rt; store.join(2) == Ok(0) && are_changes(store.done(), LATER));
+}
+
+// Why a store of 5 copies of a pair, the most of each of at most two pairs, doesn't do these changes.
+fn not_applied(alloc: Global, texts: &[&str]) -> Option<HistoryError> {
+    let mut store = Store::from_bag(alloc, bag_of(alloc, (2, 5, 9), "04:9:5")?).ok()?;
+    let error = store.apply(changes_of(alloc, texts)?).err()?;
+    if holds_pairs(store.bag(), "04:9:5") && store.done().is_empty() {
+        Some(error)
+    } else {
+        None
+    }
+}
+
+#[test]
+fn given_changes_stay_within_the_limits(rt: HostRuntime) {
+    assert!(rt;
+        not_applied(rt.alloc(), &["04:9:5:6"]) == Some(HistoryError::TooManyCopies { change: 1 })
+    );
+    assert!(rt;
+        not_applied(rt.alloc(), &["04:9:5:4", "04:9:4:6"])
+            == Some(HistoryError::TooManyCopies { change: 2 })
+    );
+    assert!(rt;
+        not_applied(rt.alloc(), &["3:7:0:1", "1:2:0:1"])
+            == Some(HistoryError::TooManyPairs { change: 2 })
+    );
 }
 
 #[test]

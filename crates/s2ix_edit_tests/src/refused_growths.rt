@@ -76,6 +76,13 @@ fn a_store_of_six_faces(rt: HostRuntime) {
 }
 
 #[test]
+fn a_copied_store_of_six_faces(rt: HostRuntime) {
+    let store = store(&rt, rt.alloc(), FACES);
+    let copy = store.copied().expect(&rt, SET_UP);
+    assert!(rt; holds_pairs(store.bag(), FACES) && holds_pairs(copy.bag(), FACES));
+}
+
+#[test]
 fn an_edit_beside_five_faces(rt: HostRuntime) {
     let store = edited(&rt, rt.alloc(), FACES);
     assert!(rt; holds_pairs(store.bag(), FACES_AND_PAIR));

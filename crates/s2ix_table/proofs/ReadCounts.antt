@@ -1,6 +1,6 @@
 -- Counts of reads, one after the other.
 use Rattle.std.proofs.Common.{◌≡◌, ℕ, zero, suc, ◌+◌, ◌-◌, ◌*◌, ◌^◌, ◌≤◌, Bool, List, length, min, sym, ap, ◌∙◌, arith}
-use Rattle.std.proofs.Math.Nat.{min-eq_left}
+use Rattle.std.proofs.Math.Nat.{min-eq_left, mul-le-mul_right}
 use Rattle.std.proofs.lemmas.List.Sums.{length-filter, count_by-le-length}
 use Rattle.s2id_core.specs.CellId.{face_of}
 use Rattle.s2ix_bag_pairs.specs.Collection.{Collection}
@@ -8,7 +8,7 @@ use Rattle.s2ix_bag_pairs.specs.declared.pair.Entry.{Entry}
 use Rattle.s2ix_bag_pairs.specs.declared.pair.Held.{Held}
 use Rattle.s2id_core.specs.BinaryDigits.{binary_digits}
 use Rattle.s2id_core.proofs.BinaryDigits.{digits_below, digits_rise}
-use Rattle.s2ix_table.specs.Faces.{has_entry_on, changed_count}
+use Rattle.s2ix_table.specs.Faces.{faces, faces_of, has_entry_on, changed_count}
 use Rattle.s2ix_table.specs.Reading.{with_read, with_reads, HasRead, IsRead, two_searches}
 
 reads_join : (j k n : ℕ) → with_reads (j + k) n ≡ with_reads j (with_reads k n)
@@ -79,8 +79,8 @@ few_digits n few = omega (arith, digits_below 40, digits_rise (n + 1) (2 ^ 40 - 
 
 -- what the faces of a change take, if none was read before: at least as many as what is known, and few
 pub few_reads : (change : List Entry) (held : Collection) (least reads : ℕ) → IsRead held
-    → HasRead least (changed_count change held + 6 * two_searches held) 0 reads
-    → (least ≤ reads) × (reads ≤ changed_count change held + 12 * binary_digits (length held + 1))
+    → HasRead least (changed_count change held + faces_of change * two_searches held) 0 reads
+    → (least ≤ reads) × (reads ≤ changed_count change held + faces_of change * two_searches held)
 few_reads change held least reads is r =
     let p : ℕ = changed_count change held in
     let d : ℕ = binary_digits (length held + 1) in
@@ -88,5 +88,6 @@ few_reads change held least reads is r =
     let on : Held → Bool = λ h. has_entry_on change (face_of h.pair.cell) in
     let less : p ≤ length held = omega (arith, length-filter on held, count_by-le-length on held) in
     let all = is.few in
-    let both = first_reads least (p + 6 * (2 * d)) reads (omega (arith, few, less, all)) r in
-    (both.0, omega (arith, both.1))
+    let six : faces_of change ≤ 6 = count_by-le-length (has_entry_on change) faces in
+    let searches : faces_of change * (2 * d) ≤ 6 * (2 * d) = mul-le-mul_right (2 * d) six in
+    first_reads least (p + faces_of change * (2 * d)) reads (omega (arith, few, less, all, searches)) r

@@ -10,7 +10,7 @@ use Rattle.s2ix_bag_lists.proofs.Ends.{face_below_six}
 use Rattle.s2ix_bag_pairs.specs.Collection.{Collection}
 use Rattle.s2ix_bag_pairs.specs.declared.pair.Entry.{Entry}
 use Rattle.s2ix_bag_pairs.specs.declared.pair.Held.{Held}
-use Rattle.s2ix_table.specs.Faces.{faces, held_on, has_entry_on, changed_on, changed_count}
+use Rattle.s2ix_table.specs.Faces.{faces, faces_of, held_on, has_entry_on, changed_on, changed_count}
 use Rattle.s2ix_table.specs.Reading.{HasRead, IsFaceRead, two_searches}
 use Rattle.s2ix_table.proofs.ReadCounts.{both_read, none_read, read_within}
 use Rattle.s2ix_table.proofs.Unchanged.{on_face, off_face}
@@ -99,10 +99,34 @@ all_summed change (h ∷ hs) =
     sum_off change h hs 6 (inl none) ∙ all_summed change hs ∙ sym (ap (λ (ks : Collection). length ks) left))
     (both (has_entry_on change q))
 
+-- 1 for a face that the change has an entry on, and 0 for another
+abbrev pub one_if_changed : List Entry → ℕ → ℕ
+one_if_changed change face = if has_entry_on change face then 1 else 0
+
+one_if_some : (change : List Entry) (face : ℕ) → has_entry_on change face ≡ true → one_if_changed change face ≡ 1
+one_if_some change face some = cond-true _ _ _ some
+
+none_if_none : (change : List Entry) (face : ℕ) → has_entry_on change face ≡ false → one_if_changed change face ≡ 0
+none_if_none change face none = cond-false _ _ _ none
+
+-- how many faces before this one the change has an entry on
+abbrev pub faces_below : List Entry → ℕ → ℕ
+faces_below change zero = 0
+faces_below change (suc face) = faces_below change face + one_if_changed change face
+
+one_more : (change : List Entry) (face : ℕ) → has_entry_on change face ≡ true → faces_below change (suc face) ≡ suc (faces_below change face)
+one_more change face some = omega (arith, one_if_some change face some)
+
+no_more : (change : List Entry) (face : ℕ) → has_entry_on change face ≡ false → faces_below change (suc face) ≡ faces_below change face
+no_more change face none = omega (arith, none_if_none change face none)
+
+all_counted : (change : List Entry) → faces_below change 6 ≡ faces_of change
+all_counted change = refl
+
 -- ---- the faces before one were read
 
 pub record AreReadBelow (change : List Entry) (hs : Collection) (w face before after : ℕ) : Type 0 where
-  pub reads : HasRead (sum_below change hs face) (sum_below change hs face + face * w) before after
+  pub reads : HasRead (sum_below change hs face) (sum_below change hs face + faces_below change face * w) before after
 
 pub nothing_read : (change : List Entry) (hs : Collection) (w before after : ℕ) → after ≡ before → AreReadBelow change hs w 0 before after
 nothing_read change hs w before after same =
@@ -116,14 +140,14 @@ pub face_left : (change : List Entry) (hs : Collection) (w face before after : �
     → AreReadBelow change hs w face before after → AreReadBelow change hs w (face + 1) before after
 face_left change hs w face before after none r =
     let p = part_none change hs face none in
-    let more = suc-mul face w in
+    let same = ap (λ (n : ℕ). n * w) (no_more change face none) in
     let s : sum_below change hs (suc face) ≡ sum_below change hs face = omega (arith, p) in
     let next : suc face ≡ face + 1 = omega arith in
     subst (λ (n : ℕ). AreReadBelow change hs w n before after) next
     (record {
       reads =
-          read_within (sum_below change hs face) (sum_below change hs face + face * w) (sum_below change hs (suc face))
-          (sum_below change hs (suc face) + suc face * w) before after (omega (arith, s)) (omega (arith, s, more)) r.reads;
+          read_within (sum_below change hs face) (sum_below change hs face + faces_below change face * w) (sum_below change hs (suc face))
+          (sum_below change hs (suc face) + faces_below change (suc face) * w) before after (omega (arith, s)) (omega (arith, s, same)) r.reads;
     })
 
 pub face_read : (change : List Entry) (hs : Collection) (w face before between after : ℕ) → has_entry_on change face ≡ true
@@ -131,24 +155,27 @@ pub face_read : (change : List Entry) (hs : Collection) (w face before between a
     → AreReadBelow change hs w (face + 1) before after
 face_read change hs w face before between after some r own =
     let p = part_some change hs face some in
-    let more = suc-mul face w in
+    let more = ap (λ (n : ℕ). n * w) (one_more change face some) ∙ suc-mul (faces_below change face) w in
     let n : ℕ = length (held_on face hs) in
     let next : suc face ≡ face + 1 = omega arith in
     subst (λ (k : ℕ). AreReadBelow change hs w k before after) next
     (record {
       reads =
-          read_within (sum_below change hs face + n) (sum_below change hs face + face * w + (n + w)) (sum_below change hs (suc face))
-          (sum_below change hs (suc face) + suc face * w) before after (omega (arith, p)) (omega (arith, p, more))
-          (both_read (sum_below change hs face) (sum_below change hs face + face * w) n (n + w) before between after r.reads own);
+          read_within (sum_below change hs face + n) (sum_below change hs face + faces_below change face * w + (n + w))
+          (sum_below change hs (suc face)) (sum_below change hs (suc face) + faces_below change (suc face) * w) before after
+          (omega (arith, p)) (omega (arith, p, more))
+          (both_read (sum_below change hs face) (sum_below change hs face + faces_below change face * w) n (n + w) before between after
+          r.reads own);
     })
 
 pub all_read : (change : List Entry) (hs : Collection) (w face before after : ℕ) → face ≡ 6 → AreReadBelow change hs w face before after
-    → HasRead (changed_count change hs) (changed_count change hs + 6 * w) before after
+    → HasRead (changed_count change hs) (changed_count change hs + faces_of change * w) before after
 all_read change hs w face before after last r =
     let all = all_summed change hs in
+    let counted = ap (λ (n : ℕ). n * w) (all_counted change) in
     let is : AreReadBelow change hs w 6 before after = subst (λ (n : ℕ). AreReadBelow change hs w n before after) last r in
-    read_within (sum_below change hs 6) (sum_below change hs 6 + 6 * w) (changed_count change hs) (changed_count change hs + 6 * w) before
-    after (omega (arith, all)) (omega (arith, all)) is.reads
+    read_within (sum_below change hs 6) (sum_below change hs 6 + faces_below change 6 * w) (changed_count change hs)
+    (changed_count change hs + faces_of change * w) before after (omega (arith, all)) (omega (arith, all, counted)) is.reads
 
 -- sums over fewer faces are no greater
 sum_rises : (change : List Entry) (hs : Collection) (m n : ℕ) → m ≤ n → sum_below change hs m ≤ sum_below change hs n
@@ -159,30 +186,31 @@ sum_rises change hs m (suc n) le =
     (λ ne. omega (arith, sum_rises change hs m n (omega (arith, ne, le))))
     (cases_eq m (suc n))
 
+-- and fewer faces are no more
+faces_rise : (change : List Entry) (m n : ℕ) → m ≤ n → faces_below change m ≤ faces_below change n
+faces_rise change m zero le = let e : m ≡ 0 = omega arith in omega (arith, ap (λ (k : ℕ). faces_below change k) e)
+faces_rise change m (suc n) le =
+    ⊎_elim
+    (λ (e : m ≡ suc n). omega (arith, ap (λ (k : ℕ). faces_below change k) e))
+    (λ ne. omega (arith, faces_rise change m n (omega (arith, ne, le))))
+    (cases_eq m (suc n))
+
 -- if a face's reading was refused
 pub refused_at : (change : List Entry) (hs : Collection) (w face before between after : ℕ) → face < 6 → has_entry_on change face ≡ true
     → AreReadBelow change hs w face before between → HasRead 0 (length (held_on face hs) + w) between after
-    → HasRead 0 (changed_count change hs + 6 * w) before after
+    → HasRead 0 (changed_count change hs + faces_of change * w) before after
 refused_at change hs w face before between after within some r own =
     let p = part_some change hs face some in
     let all = all_summed change hs in
     let up = sum_rises change hs (suc face) 6 (omega arith) in
-    let most = mul-le-mul_right w (let le : suc face ≤ 6 = omega arith in le) in
-    let more = suc-mul face w in
+    let more = ap (λ (n : ℕ). n * w) (one_more change face some) ∙ suc-mul (faces_below change face) w in
+    let most = mul-le-mul_right w (faces_rise change (suc face) 6 (omega arith)) in
+    let counted = ap (λ (n : ℕ). n * w) (all_counted change) in
     let n : ℕ = length (held_on face hs) in
-    read_within (sum_below change hs face + 0) (sum_below change hs face + face * w + (n + w)) 0 (changed_count change hs + 6 * w) before
-    after (omega arith) (omega (arith, p, all, up, most, more))
-    (both_read (sum_below change hs face) (sum_below change hs face + face * w) 0 (n + w) before between after r.reads own)
-
--- what was read of the faces before one, if a later step was refused
-pub refused_by : (change : List Entry) (hs : Collection) (w face before after : ℕ) → face ≤ 6 → AreReadBelow change hs w face before after
-    → HasRead 0 (changed_count change hs + 6 * w) before after
-refused_by change hs w face before after le r =
-    let all = all_summed change hs in
-    let up = sum_rises change hs face 6 le in
-    let most = mul-le-mul_right w le in
-    read_within (sum_below change hs face) (sum_below change hs face + face * w) 0 (changed_count change hs + 6 * w) before after
-    (omega arith) (omega (arith, all, up, most)) r.reads
+    read_within (sum_below change hs face + 0) (sum_below change hs face + faces_below change face * w + (n + w)) 0
+    (changed_count change hs + faces_of change * w) before after (omega arith) (omega (arith, p, all, up, most, more, counted))
+    (both_read (sum_below change hs face) (sum_below change hs face + faces_below change face * w) 0 (n + w) before between after r.reads
+    own)
 
 -- ---- what is kept of each face, with that of the faces before one renewed
 
@@ -265,7 +293,7 @@ face_was_left change hs face before after now none is r =
 pub face_was_refused : (change : List Entry) (hs xs : Collection) (face before between after : ℕ) → face < 6
     → has_entry_on change face ≡ true → xs ≡ hs → AreReadBelow change hs (two_searches hs) face before between
     → HasRead 0 (length (held_on face xs) + two_searches xs) between after
-    → HasRead 0 (changed_count change hs + 6 * two_searches hs) before after
+    → HasRead 0 (changed_count change hs + faces_of change * two_searches hs) before after
 face_was_refused change hs xs face before between after within some same r own =
     let here : HasRead 0 (length (held_on face hs) + two_searches hs) between after =
     subst (λ (ks : Collection). HasRead 0 (length (held_on face ks) + two_searches ks) between after) same own in

@@ -1,6 +1,6 @@
 -- Pairs and entries by the face that they lie on.
 use Rattle.std.specs.Prelude.{ℕ, ◌==◌, Bool, if◌then◌else◌, Option, Some, None, List, [], ◌∷◌, length, filter}
-use Rattle.std.specs.List.{list_any}
+use Rattle.std.specs.List.{count_by, list_any}
 use Rattle.s2id_core.specs.CellId.{face_of}
 use Rattle.s2ix_bag_pairs.specs.Collection.{Collection}
 use Rattle.s2ix_bag_pairs.specs.declared.pair.Entry.{Entry}
@@ -16,6 +16,10 @@ held_on face held = filter (λ h. face_of h.pair.cell == face) held
 -- whether a change has an entry on a face
 abbrev pub has_entry_on : List Entry → ℕ → Bool
 has_entry_on change face = list_any (λ e. face_of e.pair.cell == face) change
+
+-- how many faces a change has an entry on
+abbrev pub faces_of : List Entry → ℕ
+faces_of change = count_by (has_entry_on change) faces
 
 -- the entries of a change on a face, in their order
 abbrev pub entries_on : ℕ → List Entry → List Entry

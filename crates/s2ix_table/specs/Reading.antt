@@ -3,7 +3,7 @@ use Rattle.std.specs.Prelude.{ℕ, zero, suc, ◌≡◌, ◌+◌, ◌*◌, ◌�
 use Rattle.s2ix_bag_pairs.specs.Collection.{Collection, IsCollection}
 use Rattle.s2ix_bag_pairs.specs.declared.pair.Entry.{Entry}
 use Rattle.s2id_core.specs.BinaryDigits.{binary_digits}
-use Rattle.s2ix_table.specs.Faces.{held_on, changed_count}
+use Rattle.s2ix_table.specs.Faces.{held_on, changed_count, faces_of}
 
 -- held pairs that can be read: a collection of at most as many pairs as the widest limits let a bag hold
 pub record IsRead (held : Collection) : Type 0 where
@@ -35,7 +35,7 @@ abbrev pub IsFaceRead : ℕ → Collection → ℕ → ℕ → Type 0
 IsFaceRead face held before after =
     HasRead (length (held_on face held)) (length (held_on face held) + two_searches held) before after
 
--- the faces that a change has entries on were read: each pair on them, and what two searches for each of six faces may read
+-- the faces that a change has entries on were read: each pair on them, and what two searches for each of these faces may read
 abbrev pub AreChangedRead : List Entry → Collection → ℕ → ℕ → Type 0
 AreChangedRead change held before after =
-    HasRead (changed_count change held) (changed_count change held + 6 * two_searches held) before after
+    HasRead (changed_count change held) (changed_count change held + faces_of change * two_searches held) before after

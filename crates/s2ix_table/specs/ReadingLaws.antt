@@ -1,11 +1,10 @@
 -- What the definitions say, in other words: each of these is proved, and told in a sentence, by the function of `laws` of its name.
-use Rattle.std.specs.Prelude.{◌≡◌, ℕ, ◌+◌, ◌*◌, ◌≤◌, false, List, length}
+use Rattle.std.specs.Prelude.{◌≡◌, ℕ, ◌+◌, ◌*◌, ◌≤◌, false, List}
 use Rattle.s2ix_bag_pairs.specs.Change.{changed}
 use Rattle.s2ix_bag_pairs.specs.Collection.{Collection}
 use Rattle.s2ix_bag_pairs.specs.declared.pair.Entry.{Entry}
-use Rattle.s2ix_table.specs.Faces.{held_on, has_entry_on, changed_count}
-use Rattle.s2ix_table.specs.Reading.{IsRead, AreChangedRead}
-use Rattle.s2id_core.specs.BinaryDigits.{binary_digits}
+use Rattle.s2ix_table.specs.Faces.{held_on, has_entry_on, changed_count, faces_of}
+use Rattle.s2ix_table.specs.Reading.{IsRead, AreChangedRead, two_searches}
 
 abbrev pub UnchangedFacesStay : Type 0
 UnchangedFacesStay =
@@ -16,4 +15,4 @@ abbrev pub ChangedFacesTakeFewReads : Type 0
 ChangedFacesTakeFewReads =
     (change : List Entry) (held : Collection) (reads : ℕ) →
     IsRead held → AreChangedRead change held 0 reads →
-    (changed_count change held ≤ reads) × (reads ≤ changed_count change held + 12 * binary_digits (length held + 1))
+    (changed_count change held ≤ reads) × (reads ≤ changed_count change held + faces_of change * two_searches held)

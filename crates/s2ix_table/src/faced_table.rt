@@ -1,5 +1,4 @@
 ghost use Rattle.std.specs.Prelude.{◌≡◌, ◌≤◌, ◌<◌, ◌+◌, ◌*◌, ◌++◌, IfOk, IfSome, None, OnErr, OnOk, drop, length, set, take, vec_capacity, ℕ, map, slice_index_or, ◌≢◌, ◌∷◌, false};
-ghost use Rattle.s2id_core.specs.BinaryDigits.{binary_digits};
 ghost use Rattle.s2id_core.specs.CellId.{level_of, raw_of};
 ghost use Rattle.s2ix_bag_pairs.specs.Change.{changed};
 ghost use Rattle.s2ix_bag_pairs.specs.Collection.{IsCollection};
@@ -13,7 +12,7 @@ ghost use Rattle.s2ix_table.specs.declared.part_place.FacedPlace.TheVariants.{Li
 ghost use Rattle.s2ix_table_walk.specs.Shown.{AreBorders};
 ghost use Rattle.s2ix_table_walk.specs.Table.{range_at, IsFound, IsRangeTable, leaf_end};
 ghost use Rattle.s2ix_table.specs.Blocks.{AreBlocks};
-ghost use Rattle.s2ix_table.specs.Faces.{changed_count, held_on, changed_on, faces, has_entry_on};
+ghost use Rattle.s2ix_table.specs.Faces.{changed_count, held_on, changed_on, faces, faces_of, has_entry_on};
 ghost use Rattle.s2ix_table.specs.FaceSpans.{BeginFaces, parts_of_face, spans_of, starts_of, table_of, AreOnFace, of_face};
 ghost use Rattle.s2ix_table.specs.Joined.{held_in, joined_ranges, AreNeighbours};
 ghost use Rattle.s2ix_table.specs.Layered.{AreLayered, IsLayout, covered, heavy_in, IsFaceLayered, IsFaceWith, chunks_on};
@@ -22,6 +21,7 @@ ghost use Rattle.s2ix_table.specs.Offsets.{HasOwn, HasRange, place_on, places_of
 ghost use Rattle.s2ix_table.specs.OneProof.{joined-prop, layered-prop, faced_once-prop};
 ghost use Rattle.s2ix_table.specs.PartPlaces.{chain_from, faced_chain};
 ghost use Rattle.s2ix_table.specs.Parts.{with_parts};
+ghost use Rattle.s2ix_table.specs.Reading.{two_searches};
 ghost use Rattle.s2ix_table.specs.Whole.{AreJoined};
 ghost use Rattle.s2ix_bag_lists.specs.Faces.{all_of};
 
@@ -247,7 +247,7 @@ impl FacedTable {
         ensures table { IfOk result (λ table. IsRangeTable (B.shown bag.old) (⟦<FacedTable as RangeTable>⟧.ranges table)) }
         ensures same { B.shown bag.new ≡ B.shown bag.old }
         ensures reads_all { OnOk result (changed_count change.now (B.shown bag.old) ≤ B.spent bag.new) }
-        ensures reads_few { B.spent bag.new ≤ changed_count change.now (B.shown bag.old) + 12 * binary_digits (length (B.shown bag.old) + 1) }
+        ensures reads_few { B.spent bag.new ≤ changed_count change.now (B.shown bag.old) + faces_of change.now * two_searches (B.shown bag.old) }
     {
         let mut table = self.copied(alloc)?;
         table.rebuild(alloc, bag, change)?;
@@ -255,11 +255,11 @@ impl FacedTable {
     }
 
     /// Makes this table that of its pairs after a change: `bag` reads the pairs that the change has made of them. The parts that an entry's
-    /// cell touches are made anew or, if the cell is heavy, the chunk that has the entry's pair; the others stay. With f pairs on the faces
-    /// on which the change has entries and n in all it reads f to f + 12 * digits(n + 1) pairs, for the binary digits of n + 1: a whole
+    /// cell touches are made anew or, if the cell is heavy, the chunk that has the entry's pair; the others stay. With q pairs on the f faces
+    /// on which the change has entries and n in all it reads q to q + 2 * f * digits(n + 1) pairs, for the binary digits of n + 1: a whole
     /// face at once, which a bag hands on as it is. Besides, it takes O(p + m + k) for m entries and the k pairs of what is made anew, and
-    /// O((p + m) log c + c) more under c chunks. A face of f pairs that is laid in layers anew takes O(f log f). `OutOfMemory` if a growth
-    /// is refused: then the table stays as it is, and it has read at most so many.
+    /// O((p + m) log c + c) more under c chunks. A face of q pairs that is laid in layers anew takes O(q log q). `OutOfMemory` if a growth
+    /// is refused: then the table shows the same pairs, ranges and borders, with each pair at its place, and it has read at most so many.
     pub fn rebuild<B: PairReader>(
         &mut self,
         alloc: Global,
@@ -271,9 +271,13 @@ impl FacedTable {
         ensures pairs { OnOk result (⟦<FacedTable as RangeTable>⟧.pairs self.new ≡ B.shown bag.old) }
         ensures table { OnOk result (IsRangeTable (B.shown bag.old) (⟦<FacedTable as RangeTable>⟧.ranges self.new)) }
         ensures stays { OnErr result (⟦<FacedTable as RangeTable>⟧.pairs self.new ≡ ⟦<FacedTable as RangeTable>⟧.pairs self.old) }
+        ensures ranges_stay { OnErr result (⟦<FacedTable as RangeTable>⟧.ranges self.new ≡ ⟦<FacedTable as RangeTable>⟧.ranges self.old) }
+        ensures borders_stay { OnErr result (⟦<FacedTable as RangeTable>⟧.borders self.new ≡ ⟦<FacedTable as RangeTable>⟧.borders self.old) }
+        ensures places_stay { OnErr result ((place : FacedPlace)
+            → ⟦<FacedTable as RangeTable>⟧.chain self.new place ≡ ⟦<FacedTable as RangeTable>⟧.chain self.old place) }
         ensures same { B.shown bag.new ≡ B.shown bag.old }
         ensures reads_all { OnOk result (changed_count change.now (B.shown bag.old) ≤ B.spent bag.new) }
-        ensures reads_few { B.spent bag.new ≤ changed_count change.now (B.shown bag.old) + 12 * binary_digits (length (B.shown bag.old) + 1) }
+        ensures reads_few { B.spent bag.new ≤ changed_count change.now (B.shown bag.old) + faces_of change.now * two_searches (B.shown bag.old) }
     {
         let lists = read_changed_lists(alloc, bag, change)?;
         self.change_faces(alloc, &lists, change)?;
@@ -294,6 +298,10 @@ impl FacedTable {
         ensures pairs { OnOk result (⟦<FacedTable as RangeTable>⟧.pairs self.new
             ≡ changed (⟦<FacedTable as RangeTable>⟧.pairs self.old) change.now) }
         ensures stays { OnErr result (⟦<FacedTable as RangeTable>⟧.pairs self.new ≡ ⟦<FacedTable as RangeTable>⟧.pairs self.old) }
+        ensures ranges_stay { OnErr result (⟦<FacedTable as RangeTable>⟧.ranges self.new ≡ ⟦<FacedTable as RangeTable>⟧.ranges self.old) }
+        ensures borders_stay { OnErr result (⟦<FacedTable as RangeTable>⟧.borders self.new ≡ ⟦<FacedTable as RangeTable>⟧.borders self.old) }
+        ensures places_stay { OnErr result ((place : FacedPlace)
+            → ⟦<FacedTable as RangeTable>⟧.chain self.new place ≡ ⟦<FacedTable as RangeTable>⟧.chain self.old place) }
     {
         match only_face(change) {
             Some(face) => self.change_face(alloc, face, lists, change),
@@ -321,6 +329,10 @@ impl FacedTable {
         ensures pairs { OnOk result (⟦<FacedTable as RangeTable>⟧.pairs self.new
             ≡ changed (⟦<FacedTable as RangeTable>⟧.pairs self.old) change.now) }
         ensures stays { OnErr result (⟦<FacedTable as RangeTable>⟧.pairs self.new ≡ ⟦<FacedTable as RangeTable>⟧.pairs self.old) }
+        ensures ranges_stay { OnErr result (⟦<FacedTable as RangeTable>⟧.ranges self.new ≡ ⟦<FacedTable as RangeTable>⟧.ranges self.old) }
+        ensures borders_stay { OnErr result (⟦<FacedTable as RangeTable>⟧.borders self.new ≡ ⟦<FacedTable as RangeTable>⟧.borders self.old) }
+        ensures places_stay { OnErr result ((place : FacedPlace)
+            → ⟦<FacedTable as RangeTable>⟧.chain self.new place ≡ ⟦<FacedTable as RangeTable>⟧.chain self.old place) }
     {
         let new = self.face_after(alloc, face, lists, change)?;
         all_are_chunks(&self.heavy);
@@ -420,6 +432,7 @@ impl FacedTable {
         ensures heavy { OnOk result (self.new.heavy ≡ set self.old.heavy new.face new.heavy) }
         ensures stay { OnErr result (spans_of self.new.parts.items ≡ spans_of self.old.parts.items) }
         ensures heavy_stay { OnErr result (self.new.heavy ≡ self.old.heavy) }
+        ensures offsets_stay { OnErr result (self.new.offsets.items ≡ self.old.offsets.items) }
     {
         let blocks = self.blocks_after(alloc, &new.parts)?;
         let NewFace {

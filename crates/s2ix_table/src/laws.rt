@@ -10,11 +10,14 @@ use crate::chain_table::ChainTable;
 use crate::faced_table::FacedTable;
 use crate::part_place::{FaceHeavyPlace, FacedPlace, PartPlace};
 use crate::shares_chains::SharesChains;
+pub use s2ix_table_heavy::laws::{cloned_heavy_places_are_the_same, equal_heavy_places_are_one};
 use s2ix_table_queries::RangeTable;
 pub use s2ix_table_queries::laws::{
-    cloned_copied_places_are_the_same, cloned_range_iterators_are_the_same,
-    cloned_stretches_are_the_same, cloned_visits_are_the_same, equal_copied_places_are_one,
-    equal_visits_are_one,
+    cloned_answers_are_the_same, cloned_copied_places_are_the_same, cloned_each_stops_are_the_same,
+    cloned_hints_are_the_same, cloned_range_iterators_are_the_same, cloned_stretches_are_the_same,
+    cloned_visits_are_the_same, equal_answers_are_one, equal_copied_places_are_one,
+    equal_each_stops_are_one, equal_hints_are_one, equal_visits_are_one,
+    kept_is_the_pair_or_its_label,
 };
 pub use s2ix_table_spans::laws as spans;
 use s2ix_table_spans::laws::ranges_are_those_of_the_span;
@@ -25,8 +28,8 @@ pub fn unchanged_faces_stay()
     ensures { UnchangedFacesStay }
 {}
 
-/// If none was read before, the reads of all faces that a change has entries on are at least the p pairs held there, and at most p + 12 *
-/// digits(n + 1) for n pairs held in all, so that their count didn't stop.
+/// If none was read before, the reads of all faces that a change has entries on are at least the p pairs held there, and at most p + 2 * f
+/// * digits(n + 1) for f such faces and n pairs held in all, so that their count didn't stop.
 pub fn changed_faces_take_few_reads()
     ensures { ChangedFacesTakeFewReads }
 {}
@@ -49,9 +52,10 @@ pub fn equal_faced_places_are_one()
     ensures { (a b : FacedPlace) → IsTrue (⟦<FacedPlace as PartialEq>⟧.eq a b) ↔ (a ≡ b) }
 {}
 
-/// A clone of a place in a `FacedTable` is the same.
+/// A clone of a place in a `FacedTable` is the same, and cloning never fails.
 pub fn cloned_faced_places_are_the_same()
-    ensures { (a copy : FacedPlace) → ⟦<FacedPlace as Clone>⟧.is_clone a copy ↔ (copy ≡ a) }
+    ensures same { (a copy : FacedPlace) → ⟦<FacedPlace as Clone>⟧.is_clone a copy ↔ (copy ≡ a) }
+    ensures never_fails { (a : FacedPlace) → ⟦<FacedPlace as Clone>⟧.is_infallible a }
 {}
 
 /// Two places of light pairs in a `FacedTable` are equal exactly if they are the same.
@@ -59,9 +63,10 @@ pub fn equal_part_places_are_one()
     ensures { (a b : PartPlace) → IsTrue (⟦<PartPlace as PartialEq>⟧.eq a b) ↔ (a ≡ b) }
 {}
 
-/// A clone of a place of a light pair in a `FacedTable` is the same.
+/// A clone of a place of a light pair in a `FacedTable` is the same, and cloning never fails.
 pub fn cloned_part_places_are_the_same()
-    ensures { (a copy : PartPlace) → ⟦<PartPlace as Clone>⟧.is_clone a copy ↔ (copy ≡ a) }
+    ensures same { (a copy : PartPlace) → ⟦<PartPlace as Clone>⟧.is_clone a copy ↔ (copy ≡ a) }
+    ensures never_fails { (a : PartPlace) → ⟦<PartPlace as Clone>⟧.is_infallible a }
 {}
 
 /// Two places of heavy pairs in a `FacedTable` are equal exactly if they are the same.
@@ -69,9 +74,10 @@ pub fn equal_face_heavy_places_are_one()
     ensures { (a b : FaceHeavyPlace) → IsTrue (⟦<FaceHeavyPlace as PartialEq>⟧.eq a b) ↔ (a ≡ b) }
 {}
 
-/// A clone of a place of a heavy pair in a `FacedTable` is the same.
+/// A clone of a place of a heavy pair in a `FacedTable` is the same, and cloning never fails.
 pub fn cloned_face_heavy_places_are_the_same()
-    ensures { (a copy : FaceHeavyPlace) → ⟦<FaceHeavyPlace as Clone>⟧.is_clone a copy ↔ (copy ≡ a) }
+    ensures same { (a copy : FaceHeavyPlace) → ⟦<FaceHeavyPlace as Clone>⟧.is_clone a copy ↔ (copy ≡ a) }
+    ensures never_fails { (a : FaceHeavyPlace) → ⟦<FaceHeavyPlace as Clone>⟧.is_infallible a }
 {}
 
 /// A `FacedTable` of n pairs has at most 2 * n + 1 ranges.

@@ -15,7 +15,8 @@ use std::sync::Arc;
 
 /// The tables of some pairs over neighbouring spans of leaves, which together go from the number `from` up to `to`. The pairs come in
 /// lists, each before the next one, and their cells lie in that span. Wherever all cells before a list end by where all cells from it on
-/// begin, a new part begins; a part of one list shares it. O(n) for n pairs. `OutOfMemory` if a growth is refused.
+/// begin, a new part begins; a part of one list shares it. No clause says where parts begin or how many there are: only
+/// the bench shows it. O(n) for n pairs. `OutOfMemory` if a growth is refused.
 pub fn parts_over(
     alloc: Global,
     held: &[HeldList],

@@ -3,7 +3,7 @@ ghost use Rattle.s2ix_bag_lists.specs.Faces.{face_start};
 ghost use Rattle.s2ix_bag_pairs.specs.Collection.{IsCollectionFrom, AreBelow};
 ghost use Rattle.s2ix_bag_pairs.specs.Pair.{rank_of};
 ghost use Rattle.s2id_core.specs.BinaryDigits.{binary_digits};
-ghost use Rattle.s2ix_table.specs.Faces.{faces, held_on, changed_on, changed_count};
+ghost use Rattle.s2ix_table.specs.Faces.{faces, faces_of, held_on, changed_on, changed_count};
 ghost use Rattle.s2ix_table.specs.Reading.{HasRead, IsFaceRead, AreChangedRead, two_searches};
 
 use crate::changes::changed_faces;
@@ -80,8 +80,8 @@ pub fn read_list<B: PairReader>(
 }
 
 /// For each face, 0 to 5, on which a change has an entry: the pairs held there, in rising order. `None` for the other faces. With p pairs
-/// on those faces and n in all it reads each of the p once and O(log n) more: at most p + 12 * digits(n + 1) reads, for the binary digits
-/// of n + 1. O(m) besides, for m entries. `OutOfMemory` if a growth is refused, after no more reads than that.
+/// on f such faces and n in all it reads each of the p once and O(f log n) more: at most p + 2 * f * digits(n + 1) reads, for the binary
+/// digits of n + 1. O(m) besides, for m entries. `OutOfMemory` if a growth is refused, after no more reads than that.
 pub fn read_changed<B: PairReader>(
     alloc: Global,
     reader: &mut B,
@@ -92,7 +92,7 @@ pub fn read_changed<B: PairReader>(
     ensures same { B.shown reader.new ≡ B.shown reader.old }
     ensures reads { OnOk result (AreChangedRead change.now (B.shown reader.old) (B.spent reader.old) (B.spent reader.new)) }
     ensures refused { HasRead 0
-        (changed_count change.now (B.shown reader.old) + 6 * two_searches (B.shown reader.old)) (B.spent reader.old) (B.spent reader.new) }
+        (changed_count change.now (B.shown reader.old) + faces_of change.now * two_searches (B.shown reader.old)) (B.spent reader.old) (B.spent reader.new) }
 {
     let lists = read_changed_lists(alloc, reader, change)?;
     Ok([
@@ -126,7 +126,7 @@ pub(crate) fn read_changed_lists<B: PairReader>(
     ensures same { B.shown reader.new ≡ B.shown reader.old }
     ensures reads { OnOk result (AreChangedRead change.now (B.shown reader.old) (B.spent reader.old) (B.spent reader.new)) }
     ensures refused { HasRead 0
-        (changed_count change.now (B.shown reader.old) + 6 * two_searches (B.shown reader.old)) (B.spent reader.old) (B.spent reader.new) }
+        (changed_count change.now (B.shown reader.old) + faces_of change.now * two_searches (B.shown reader.old)) (B.spent reader.old) (B.spent reader.new) }
 {
     let changed = changed_faces(change);
     let mut read = [None, None, None, None, None, None];

@@ -27,7 +27,8 @@ pub fn equal_heavy_places_are_one()
     ensures { (a b : HeavyPlace) → IsTrue (⟦<HeavyPlace as PartialEq>⟧.eq a b) ↔ (a ≡ b) }
 {}
 
-/// A clone of a place of a heavy pair is the same.
+/// A clone of a place of a heavy pair is the same, and cloning never fails.
 pub fn cloned_heavy_places_are_the_same()
-    ensures { (a copy : HeavyPlace) → ⟦<HeavyPlace as Clone>⟧.is_clone a copy ↔ (copy ≡ a) }
+    ensures same { (a copy : HeavyPlace) → ⟦<HeavyPlace as Clone>⟧.is_clone a copy ↔ (copy ≡ a) }
+    ensures never_fails { (a : HeavyPlace) → ⟦<HeavyPlace as Clone>⟧.is_infallible a }
 {}

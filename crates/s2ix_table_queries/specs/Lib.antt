@@ -10,6 +10,7 @@ pub use Rattle.s2ix_table_walk.specs.Shown
 pub use Rattle.s2ix_table_walk.specs.Stretches
 pub mod Iterators
 pub mod Copied
+pub mod Hints
 pub mod Leaf
 pub mod LeafContents
 pub mod ManyLeaves

@@ -237,6 +237,8 @@ pub fn at_each<T: RangeTable, R: OfHeld>(
     ensures all { result.stop ≡ EachStop.All → result.answered ≡ length leaves.now }
     ensures no_leaf { result.stop ≡ EachStop.NoLeaf → IsNoLeaf leaves.now result.answered }
     ensures no_room { result.stop ≡ EachStop.NoRoom → LacksRoom (T.pairs table.now) leaves.now result.answered ends.old out.old }
+    ensures ends { length ends.new ≡ length ends.old }
+    ensures out { length out.new ≡ length out.old }
 {
     let mut contents = LeafContents::none();
     let mut done = Done {

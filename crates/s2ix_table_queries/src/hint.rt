@@ -14,8 +14,13 @@ pub struct LeafHint {
 }
 
 impl LeafHint {
-    /// A hint that fits no leaf. O(1).
-    pub fn none() -> LeafHint {
+    ghost use Rattle.std.specs.Prelude.{◌≡◌};
+    ghost use Rattle.s2ix_table_queries.specs.Hints.{no_hint};
+
+    /// A hint that fits no leaf: no part and no range has the greatest number that there is, which it names. O(1).
+    pub fn none() -> LeafHint
+        ensures { result ≡ no_hint }
+    {
         LeafHint {
             part: usize::MAX,
             range: usize::MAX,

@@ -11,6 +11,8 @@ mod heavy_tests;
 #[cfg(test)]
 mod many_tests;
 #[cfg(test)]
+mod meter_tests;
+#[cfg(test)]
 mod parts_tests;
 #[cfg(test)]
 mod reading_tests;

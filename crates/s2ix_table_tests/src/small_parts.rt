@@ -61,4 +61,21 @@ impl Both {
             _ => false,
         }
     }
+
+    // Whether the two innermost pairs over a leaf are heavy, and each is the first of its chunk. Only what is printed of a place says where in
+    // a chunk it is.
+    pub(crate) fn has_chunks_of_one_over(&self, alloc: Global, token: &str) -> Option<bool> {
+        let leaf = cell_of(token)?;
+        if leaf.level() != 30 {
+            return None;
+        }
+        let first = self.table.first_over(leaf)?;
+        let second = self.table.outer(first)?;
+        let printed = format!(in alloc; "{first:?} {second:?}").ok()?;
+        let are_heavy = matches!(
+            (first, second),
+            (FacedPlace::Heavy(_), FacedPlace::Heavy(_))
+        );
+        Some(are_heavy && !printed.contains("node: 1"))
+    }
 }

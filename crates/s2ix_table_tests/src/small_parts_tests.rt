@@ -164,6 +164,13 @@ fn many_labels_of_a_cell_are_heavy(rt: HostRuntime) {
     assert!(rt; leads_to(rt.alloc(), &mut both, GO, &LEFT, true));
 }
 
+#[test]
+fn a_chunk_has_no_more_pairs_than_a_part(rt: HostRuntime) {
+    let mut both = Both::empty(rt.alloc(), 1).expect(&rt, SET_UP);
+    assert!(rt; leads_to(rt.alloc(), &mut both, COME, &HEAVY, true));
+    assert!(rt; both.has_chunks_of_one_over(rt.alloc(), "07ffffffffffffff") == Some(true));
+}
+
 // Cells in several parts. More pairs lie within one of them than a part should have, but few enough for it to be light.
 const SPREAD: &str =
     "01:1:0:1 01:2:0:1 03:1:0:1 04:1:0:1 05:1:0:1 09:1:0:1 0b:1:0:1 0d:1:0:1 0f:1:0:1 11:1:0:1 13:1:0:1 15:1:0:1 17:1:0:1 19:1:0:1";

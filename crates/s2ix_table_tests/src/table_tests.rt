@@ -95,7 +95,7 @@ fn the_longest_chain_is_met_whole(rt: HostRuntime) {
 }
 
 // A visit by a closure that may always be called.
-fn visit_all<T: RangeTable, F: FnMut(Held) -> bool>(
+pub(crate) fn visit_all<T: RangeTable, F: FnMut(Held) -> bool>(
     table: &T,
     target: &CellUnion,
     f: &mut F,

@@ -13,11 +13,12 @@ ghost use Rattle.s2ix_table_walk.specs.RangeLaws.{ContentsAreOfTheLeaf, OneListO
 ghost use Rattle.s2ix_table_walk.specs.Calls.{CallsOn};
 ghost use Rattle.s2ix_table_walk.specs.WalkLaws.{MetRangesShareALeaf};
 ghost use Rattle.s2ix_table_walk.specs.declared.cost.Cost.{Cost};
+ghost use Rattle.s2ix_table_walk.specs.declared.window.LeafWindow.{LeafWindow};
 ghost use Rattle.s2ix_table_walk.specs.declared.window.Window.{Window};
 
 use crate::cost::Cost;
 use crate::row::RangeRow;
-use crate::window::Window;
+use crate::window::{LeafWindow, Window};
 use s2ix_bag_pairs::Held;
 
 /// `contents_at` of a leaf's number are the leaf's contents: the held pairs whose cells have the leaf, in order.
@@ -72,9 +73,10 @@ pub fn equal_range_rows_are_one()
     ensures { (a b : RangeRow) → IsTrue (⟦<RangeRow as PartialEq>⟧.eq a b) ↔ (a ≡ b) }
 {}
 
-/// A clone of a range's span is the same.
+/// A clone of a range's span is the same, and cloning never fails.
 pub fn cloned_range_rows_are_the_same()
-    ensures { (a copy : RangeRow) → ⟦<RangeRow as Clone>⟧.is_clone a copy ↔ (copy ≡ a) }
+    ensures same { (a copy : RangeRow) → ⟦<RangeRow as Clone>⟧.is_clone a copy ↔ (copy ≡ a) }
+    ensures never_fails { (a : RangeRow) → ⟦<RangeRow as Clone>⟧.is_infallible a }
 {}
 
 /// A range counts as met exactly if one of its leaves is the target's.
@@ -93,9 +95,10 @@ pub fn equal_costs_are_one()
     ensures { (a b : Cost) → IsTrue (⟦<Cost as PartialEq>⟧.eq a b) ↔ (a ≡ b) }
 {}
 
-/// A clone of a cost is the same.
+/// A clone of a cost is the same, and cloning never fails.
 pub fn cloned_costs_are_the_same()
-    ensures { (a copy : Cost) → ⟦<Cost as Clone>⟧.is_clone a copy ↔ (copy ≡ a) }
+    ensures same { (a copy : Cost) → ⟦<Cost as Clone>⟧.is_clone a copy ↔ (copy ≡ a) }
+    ensures never_fails { (a : Cost) → ⟦<Cost as Clone>⟧.is_infallible a }
 {}
 
 /// Two windows are equal exactly if they are the same.
@@ -103,7 +106,14 @@ pub fn equal_windows_are_one()
     ensures { (a b : Window) → IsTrue (⟦<Window as PartialEq>⟧.eq a b) ↔ (a ≡ b) }
 {}
 
-/// A clone of a window is the same.
+/// A clone of a window is the same, and cloning never fails.
 pub fn cloned_windows_are_the_same()
-    ensures { (a copy : Window) → ⟦<Window as Clone>⟧.is_clone a copy ↔ (copy ≡ a) }
+    ensures same { (a copy : Window) → ⟦<Window as Clone>⟧.is_clone a copy ↔ (copy ≡ a) }
+    ensures never_fails { (a : Window) → ⟦<Window as Clone>⟧.is_infallible a }
+{}
+
+/// A clone of a leaf's window is the same, and cloning never fails.
+pub fn cloned_leaf_windows_are_the_same()
+    ensures same { (a copy : LeafWindow) → ⟦<LeafWindow as Clone>⟧.is_clone a copy ↔ (copy ≡ a) }
+    ensures never_fails { (a : LeafWindow) → ⟦<LeafWindow as Clone>⟧.is_infallible a }
 {}

@@ -11,6 +11,7 @@ pub use Rattle.s2ix_text_write.specs.Version
 pub use Rattle.s2ix_text_write.specs.Export
 pub use Rattle.s2ix_bag.specs.Replay
 pub mod DumpFaults
+pub mod FaultTexts
 pub mod Feeds
 pub mod DumpLaws
 pub mod PairLines

@@ -1,3 +1,5 @@
+ghost use Rattle.std.specs.Prelude.{◌≡◌};
+
 use s2id_core::OutOfMemory;
 use std::fmt;
 use thiserror::Error;
@@ -30,8 +32,12 @@ pub enum DumpFault {
 }
 
 impl DumpFault {
+    ghost use Rattle.s2ix_text.specs.FaultTexts.{dump_fault_text};
+
     // What is wrong, in words.
-    fn text(self) -> &'static str {
+    fn text(self) -> &'static str
+        ensures { result.now ≡ dump_fault_text self }
+    {
         match self {
             DumpFault::Truncated => "a line is missing or has no line feed",
             DumpFault::BadHeader => "the first line is neither `s2ix 1` nor `s2ix 2`",
@@ -50,7 +56,13 @@ impl DumpFault {
     }
 }
 
+/// `{}` prints what is wrong, in words.
 impl fmt::Display for DumpFault {
+    ghost use Rattle.std.specs.Prelude.{Some};
+    ghost use Rattle.s2ix_text.specs.FaultTexts.{dump_fault_text};
+
+    ghost output = { λ fault. Some (dump_fault_text fault) };
+
     fn fmt<W: fmt::Write>(&self, f: &mut fmt::Formatter<W>) -> fmt::Result {
         f.write_str(self.text())
     }

@@ -36,8 +36,12 @@ pub enum JournalFault {
 }
 
 impl JournalFault {
+    ghost use Rattle.s2ix_text.specs.FaultTexts.{journal_fault_text};
+
     // What is wrong, in words.
-    fn text(self) -> &'static str {
+    fn text(self) -> &'static str
+        ensures { result.now ≡ journal_fault_text self }
+    {
         match self {
             JournalFault::Truncated => "a line is missing or has no line feed",
             JournalFault::BadHeader =>
@@ -57,7 +61,13 @@ impl JournalFault {
     }
 }
 
+/// `{}` prints what is wrong, in words.
 impl fmt::Display for JournalFault {
+    ghost use Rattle.std.specs.Prelude.{Some};
+    ghost use Rattle.s2ix_text.specs.FaultTexts.{journal_fault_text};
+
+    ghost output = { λ fault. Some (journal_fault_text fault) };
+
     fn fmt<W: fmt::Write>(&self, f: &mut fmt::Formatter<W>) -> fmt::Result {
         f.write_str(self.text())
     }

@@ -33,9 +33,10 @@ pub fn equal_dump_faults_are_one()
     ensures { (a b : DumpFault) → IsTrue (⟦<DumpFault as PartialEq>⟧.eq a b) ↔ (a ≡ b) }
 {}
 
-/// A clone of a fault of a dump is the same.
+/// A clone of a fault of a dump is the same, and cloning never fails.
 pub fn cloned_dump_faults_are_the_same()
-    ensures { (a copy : DumpFault) → ⟦<DumpFault as Clone>⟧.is_clone a copy ↔ (copy ≡ a) }
+    ensures same { (a copy : DumpFault) → ⟦<DumpFault as Clone>⟧.is_clone a copy ↔ (copy ≡ a) }
+    ensures never_fails { (a : DumpFault) → ⟦<DumpFault as Clone>⟧.is_infallible a }
 {}
 
 /// Two errors of `read_dump` are equal exactly if they are the same.
@@ -43,9 +44,10 @@ pub fn equal_dump_errors_are_one()
     ensures { (a b : DumpError) → IsTrue (⟦<DumpError as PartialEq>⟧.eq a b) ↔ (a ≡ b) }
 {}
 
-/// A clone of an error of `read_dump` is the same.
+/// A clone of an error of `read_dump` is the same, and cloning never fails.
 pub fn cloned_dump_errors_are_the_same()
-    ensures { (a copy : DumpError) → ⟦<DumpError as Clone>⟧.is_clone a copy ↔ (copy ≡ a) }
+    ensures same { (a copy : DumpError) → ⟦<DumpError as Clone>⟧.is_clone a copy ↔ (copy ≡ a) }
+    ensures never_fails { (a : DumpError) → ⟦<DumpError as Clone>⟧.is_infallible a }
 {}
 
 /// A text has no fault exactly if it is a journal, in either version, of a list of changes within the limits.
@@ -69,9 +71,10 @@ pub fn equal_journal_faults_are_one()
     ensures { (a b : JournalFault) → IsTrue (⟦<JournalFault as PartialEq>⟧.eq a b) ↔ (a ≡ b) }
 {}
 
-/// A clone of a fault of a journal is the same.
+/// A clone of a fault of a journal is the same, and cloning never fails.
 pub fn cloned_journal_faults_are_the_same()
-    ensures { (a copy : JournalFault) → ⟦<JournalFault as Clone>⟧.is_clone a copy ↔ (copy ≡ a) }
+    ensures same { (a copy : JournalFault) → ⟦<JournalFault as Clone>⟧.is_clone a copy ↔ (copy ≡ a) }
+    ensures never_fails { (a : JournalFault) → ⟦<JournalFault as Clone>⟧.is_infallible a }
 {}
 
 /// Two errors of `read_journal` are equal exactly if they are the same.
@@ -79,7 +82,8 @@ pub fn equal_journal_errors_are_one()
     ensures { (a b : JournalError) → IsTrue (⟦<JournalError as PartialEq>⟧.eq a b) ↔ (a ≡ b) }
 {}
 
-/// A clone of an error of `read_journal` is the same.
+/// A clone of an error of `read_journal` is the same, and cloning never fails.
 pub fn cloned_journal_errors_are_the_same()
-    ensures { (a copy : JournalError) → ⟦<JournalError as Clone>⟧.is_clone a copy ↔ (copy ≡ a) }
+    ensures same { (a copy : JournalError) → ⟦<JournalError as Clone>⟧.is_clone a copy ↔ (copy ≡ a) }
+    ensures never_fails { (a : JournalError) → ⟦<JournalError as Clone>⟧.is_infallible a }
 {}

@@ -13,9 +13,10 @@ pub fn equal_run_faults_are_one()
     ensures { (a b : RunFault) → IsTrue (⟦<RunFault as PartialEq>⟧.eq a b) ↔ (a ≡ b) }
 {}
 
-/// A clone of a run's fault is the same.
+/// A clone of a run's fault is the same, and cloning never fails.
 pub fn cloned_run_faults_are_the_same()
-    ensures { (a copy : RunFault) → ⟦<RunFault as Clone>⟧.is_clone a copy ↔ (copy ≡ a) }
+    ensures same { (a copy : RunFault) → ⟦<RunFault as Clone>⟧.is_clone a copy ↔ (copy ≡ a) }
+    ensures never_fails { (a : RunFault) → ⟦<RunFault as Clone>⟧.is_infallible a }
 {}
 
 /// Two read faults are equal exactly if they are the same.
@@ -23,9 +24,10 @@ pub fn equal_read_faults_are_one()
     ensures { (a b : ReadFault) → IsTrue (⟦<ReadFault as PartialEq>⟧.eq a b) ↔ (a ≡ b) }
 {}
 
-/// A clone of a read fault is the same.
+/// A clone of a read fault is the same, and cloning never fails.
 pub fn cloned_read_faults_are_the_same()
-    ensures { (a copy : ReadFault) → ⟦<ReadFault as Clone>⟧.is_clone a copy ↔ (copy ≡ a) }
+    ensures same { (a copy : ReadFault) → ⟦<ReadFault as Clone>⟧.is_clone a copy ↔ (copy ≡ a) }
+    ensures never_fails { (a : ReadFault) → ⟦<ReadFault as Clone>⟧.is_infallible a }
 {}
 
 /// Two write faults are equal exactly if they are the same.
@@ -33,7 +35,8 @@ pub fn equal_write_faults_are_one()
     ensures { (a b : WriteFault) → IsTrue (⟦<WriteFault as PartialEq>⟧.eq a b) ↔ (a ≡ b) }
 {}
 
-/// A clone of a write fault is the same.
+/// A clone of a write fault is the same, and cloning never fails.
 pub fn cloned_write_faults_are_the_same()
-    ensures { (a copy : WriteFault) → ⟦<WriteFault as Clone>⟧.is_clone a copy ↔ (copy ≡ a) }
+    ensures same { (a copy : WriteFault) → ⟦<WriteFault as Clone>⟧.is_clone a copy ↔ (copy ≡ a) }
+    ensures never_fails { (a : WriteFault) → ⟦<WriteFault as Clone>⟧.is_infallible a }
 {}

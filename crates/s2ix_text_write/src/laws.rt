@@ -42,9 +42,10 @@ pub fn equal_versions_are_one()
     ensures { (a b : Version) → IsTrue (⟦<Version as PartialEq>⟧.eq a b) ↔ (a ≡ b) }
 {}
 
-/// A clone of a version is the same.
+/// A clone of a version is the same, and cloning never fails.
 pub fn cloned_versions_are_the_same()
-    ensures { (a copy : Version) → ⟦<Version as Clone>⟧.is_clone a copy ↔ (copy ≡ a) }
+    ensures same { (a copy : Version) → ⟦<Version as Clone>⟧.is_clone a copy ↔ (copy ≡ a) }
+    ensures never_fails { (a : Version) → ⟦<Version as Clone>⟧.is_infallible a }
 {}
 
 /// Two bags with one export hold the same.

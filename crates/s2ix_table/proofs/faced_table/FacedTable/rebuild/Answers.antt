@@ -1,7 +1,7 @@
 use Rattle.std.proofs.Common.{◌+◌, ◌*◌, length, map, sym, ap, ◌∙◌, subst, arith}
 use Rattle.s2ix_bag_pairs.specs.Collection.{Collection, IsCollection}
 use Rattle.s2ix_table_walk.specs.Table.{IsRangeTable}
-use Rattle.s2ix_table.specs.Faces.{changed_count, changed_on, faces}
+use Rattle.s2ix_table.specs.Faces.{changed_count, changed_on, faces, faces_of}
 use Rattle.s2ix_table.specs.FaceSpans.{spans_of}
 use Rattle.s2ix_table.specs.Joined.{joined_ranges}
 use Rattle.s2ix_table.specs.Layered.{covered, heavy_in}
@@ -29,7 +29,7 @@ returns-in_err-lists-clause-reads_few g c =
     let hs = g.B.PairReader.shown c.args.bag.now in
     let is = g.met.B.PairReader.is_read c.args.bag.now in
     let after = g.B.PairReader.spent c.read_changed_lists.new.reader in
-    let most = changed_count change hs + 6 * two_searches hs in
+    let most = changed_count change hs + faces_of change * two_searches hs in
     let reads = subst (λ n. HasRead 0 most n after) c.requires.unread c.read_changed_lists.ensures.refused in
     (few_reads change hs 0 after is reads).1
 
@@ -39,7 +39,7 @@ returns-in_err-change_faces-clause-reads_few g c =
     let hs = g.B.PairReader.shown c.args.bag.now in
     let is = g.met.B.PairReader.is_read c.args.bag.now in
     let after = g.B.PairReader.spent c.read_changed_lists.new.reader in
-    let most = changed_count change hs + 6 * two_searches hs in
+    let most = changed_count change hs + faces_of change * two_searches hs in
     let reads = subst (λ n. HasRead 0 most n after) c.requires.unread c.read_changed_lists.ensures.refused in
     (few_reads change hs 0 after is reads).1
 
@@ -49,7 +49,7 @@ returns-clause-reads_few g c =
     let hs = g.B.PairReader.shown c.args.bag.now in
     let is = g.met.B.PairReader.is_read c.args.bag.now in
     let after = g.B.PairReader.spent c.read_changed_lists.new.reader in
-    let most = changed_count change hs + 6 * two_searches hs in
+    let most = changed_count change hs + faces_of change * two_searches hs in
     let reads = subst (λ n. HasRead 0 most n after) c.requires.unread c.read_changed_lists.ensures.refused in
     (few_reads change hs 0 after is reads).1
 
