@@ -4,7 +4,6 @@ rt ci proves all that crates.txt names. In a workspace it finds the crates that 
 proves as many side by side as there are processors. A workspace proves all anew; only the parts of ./test share one (see proved).
 """
 import contextlib
-import functools
 import os
 import re
 import shutil
@@ -12,10 +11,16 @@ import subprocess
 import tempfile
 import time
 
+import kept
+
 TOP = os.path.dirname(os.path.dirname(os.path.realpath(__file__)))
 PARTS = ("src", "specs", "proofs")
 # What rt ci runs a program on.
 RUN_FILES = ("args", "stdin", "stdout", "status")
+# The crate that all others wait for, the seconds that its proof takes on README's machine, and those that a unit of Progress takes there.
+FIRST, FIRST_SECONDS, UNIT_SECONDS = "s2id_core", 33, 0.83
+# What rt ci says of a crate that is proved.
+PROVED = re.compile(r"rt: (\w+) (proved$|is kept)")
 
 
 class NotProved(Exception):
@@ -77,33 +82,66 @@ def copy_crates(names, folder):
                 shutil.copy(f"{TOP}/crates/{crate}/{name}", f"{folder}/crates/{crate}")
 
 
-@functools.cache
-def kit():
-    """The toolchain's folder."""
-    return os.path.dirname(subprocess.run(["rt", "doc"], capture_output=True, text=True, check=True).stdout.strip())
+def sum_of(names, top):
+    """A sum of these crates as a folder has them, with their lines of crates.txt."""
+    lines = [(crate, KINDS[crate], CRATES[crate]) for crate in names]
+    return kept.sum_of(lines, kept.sum_of_files([f"crates/{crate}/{part}" for crate in names for part in PARTS], top))
 
 
 def words_over(used, folder):
     """The words by which rattle reads a crate over these libraries: the crates among them, as they are built in a workspace, and the toolchain's."""
-    words = ["--antt-project", f"{kit()}/rattle/logic/antt-project.json", "--logic-built", f"{kit()}/logic_built"]
-    words += ["-L", f"dependency={kit()}/rlibs"]
+    words = ["--antt-project", f"{kept.kit()}/rattle/logic/antt-project.json", "--logic-built", f"{kept.kit()}/logic_built"]
+    words += ["-L", f"dependency={kept.kit()}/rlibs"]
     for crate in with_below([name for name in used if name in CRATES]):
         words += ["-L", f"dependency={folder}/crates/{crate}/out/rlib"]
     for name in ("std", *used):
-        rlibs = f"{folder}/crates/{name}/out/rlib" if name in CRATES else f"{kit()}/rlibs"
+        rlibs = f"{folder}/crates/{name}/out/rlib" if name in CRATES else f"{kept.kit()}/rlibs"
         words += ["--extern", f"{name}={rlibs}/{name}.rlib"]
     return words
 
 
-def build_static(crate, used, folder, kept, archive):
+def build_static(crate, used, folder, before, archive):
     """Proves a crate of a workspace over the libraries that it uses, as they are built there, and makes a static library of it as a program is
-    made: by LLVM with -O3. What it proves is kept in a folder of its own, for when the crate changes; it makes nothing of a crate that is not proved."""
-    words = [f"{kit()}/bin/rattle", "build", "--crate-name", crate, "--crate-type", "staticlib", "--backend", "llvm", "src/lib.rt"]
-    words += ["--jobs", str(len(os.sched_getaffinity(0))), "--incremental", kept, *words_over(used, folder)]
-    words += ["--toolchain", f"{kit()}/toolchain", "-o", archive]
+    made: by LLVM with -O3. What it proves is kept in the folder `before`, for when the crate changes. Raises NotProved, and makes no library, if
+    the crate is not proved."""
+    words = [f"{kept.kit()}/bin/rattle", "build", "--crate-name", crate, "--crate-type", "staticlib", "--backend", "llvm", "src/lib.rt"]
+    words += ["--jobs", str(len(os.sched_getaffinity(0))), "--incremental", before, *words_over(used, folder)]
+    words += ["--toolchain", f"{kept.kit()}/toolchain", "-o", archive]
     ran = subprocess.run(words, cwd=f"{folder}/crates/{crate}", stdout=subprocess.PIPE, stderr=subprocess.STDOUT, text=True, errors="replace")
     if ran.returncode:
         raise NotProved(ran.stdout.replace(folder, TOP))
+
+
+def proof_name(crate, top):
+    """The name under which it is kept that a crate of a folder is proved."""
+    return kept.sum_of("proof", kept.toolchain(), sum_of(with_below([crate]), top))
+
+
+def is_kept(crate):
+    """Whether a run on this machine proved a crate of the same text, and rt keeps a proof of it. It only serves to say how long a run takes."""
+    return kept.has_proof(crate) and kept.read(proof_name(crate, TOP)) is True
+
+
+def pace():
+    """How many times as long as README's machine this one takes, as it was seen at the first crate, or None."""
+    seconds = kept.read(kept.sum_of("first crate", kept.toolchain()))
+    return seconds / FIRST_SECONDS if isinstance(seconds, (int, float)) else None
+
+
+def note_proof(line, top, started):
+    """If a line of rt ci says that a crate is proved, notes that for later runs, and returns the crate and whether rt kept its proof."""
+    told = PROVED.match(line)
+    if not told or told[1] not in CRATES:
+        return None
+    crate, was_kept = told[1], told[2] != "proved"
+    kept.keep(proof_name(crate, top), True)
+    if crate == FIRST and not was_kept:
+        kept.keep(kept.sum_of("first crate", kept.toolchain()), time.monotonic() - started)
+    return crate, was_kept
+
+
+def minutes_words(minutes):
+    return f"about {minutes:.0f} min" if minutes >= 1.5 else "about a minute"
 
 
 class Progress:
@@ -114,12 +152,12 @@ class Progress:
         self.work = {crate: 25 + lines_of(crate) / 80 + 2 * len(with_below([crate])) for crate in names}
         self.of, self.left, self.started = len(names), list(names), time.monotonic()
 
-    def length(self, names):
+    def length(self, names, processors=len(os.sched_getaffinity(0))):
         """How long these crates take, in a unit of its own."""
         chains = {}
         for crate in names:
             chains[crate] = self.work[crate] + max((chains[used] for used in CRATES[crate] if used in chains), default=0)
-        return max(sum(self.work[crate] for crate in names) / len(os.sched_getaffinity(0)), *chains.values(), 0)
+        return max(sum(self.work[crate] for crate in names) / processors, *chains.values(), 0)
 
     def done(self, crate, was_kept):
         """Notes that a crate is proved, and returns how far the proofs are, in words."""
@@ -131,8 +169,7 @@ class Progress:
         told = f"proved {self.of - len(self.left)} of {self.of}: {crate}"
         if not self.left or done <= 0:
             return told
-        minutes = (time.monotonic() - self.started) * left / done / 60
-        return f"{told}, {'about %.0f min' % minutes if minutes >= 1.5 else 'about a minute'} left"
+        return f"{told}, {minutes_words((time.monotonic() - self.started) * left / done / 60)} left"
 
 
 def lines_of(crate):
@@ -148,14 +185,14 @@ def lines_of(crate):
 
 def prove(folder, names, tell):
     """Proves and builds the crates of a workspace, and calls tell with a line for each crate that is proved."""
-    progress, said, refused = Progress(names), [], []
+    progress, said, refused, started = Progress(names), [], [], time.monotonic()
     with subprocess.Popen(["rt", "ci"], cwd=folder, stdin=subprocess.DEVNULL, stdout=subprocess.PIPE, stderr=subprocess.STDOUT, text=True, errors="replace") as rt:
         for line in rt.stdout:
             # (what rt says of a crate begins with a line of its own)
             said = [line] if line.startswith("== ") else [*said, line]
-            proved = re.match(r"rt: (\w+) (proved$|is kept)", line)
-            if proved and proved[1] in progress.left:
-                tell(progress.done(proved[1], proved[2] != "proved"))
+            crate, was_kept = note_proof(line, folder, started) or (None, False)
+            if crate in progress.left:
+                tell(progress.done(crate, was_kept))
             if re.match(r"rt: \w+ NOT PROVED", line):
                 refused += said
     if rt.returncode:
