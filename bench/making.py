@@ -13,6 +13,7 @@ BENCH = os.path.dirname(os.path.realpath(__file__))
 TOP = os.path.dirname(BENCH)
 OUT = f"{BENCH}/out"
 sys.path.insert(0, f"{TOP}/tools")
+import kept  # noqa: E402
 import workspace  # noqa: E402
 
 PACKAGES = ("libs2-dev", "g++", "valgrind", "python3-pandas", "python3-dask", "python3-distributed")
@@ -26,7 +27,7 @@ S2_CLASSES = ("s2cell_id", "s2cell_index", "s2cell_union")
 S2 = ("-Wl,--copy-dt-needed-entries", "-ls2")
 ARCHIVE = "[signed-by=/usr/share/keyrings/debian-archive-keyring.gpg] http://deb.debian.org/debian"
 PROGRAMS = {"session": ("session", "turns", "s2_side", "read_dump", "scene"), "script": ("script", "read_dump"), "texts": ("texts", "scene"),
-            "edits": ("edits", "scene"), "at_once": ("at_once",)}
+            "edits": ("edits", "scene"), "at_once": ("at_once",), "doors": ("doors", "scene")}
 
 
 def say(text):
@@ -145,8 +146,8 @@ def make_c_library():
 def linked_with(program):
     """What a program is linked with besides its own parts. (liblibc_c.a gives memory to a static library)"""
     if program == "session":
-        return [*compiled_s2(), f"{OUT}/libours.a", f"{workspace.kit()}/c/liblibc_c.a"]
-    if program == "edits":
+        return [*compiled_s2(), f"{OUT}/libours.a", f"{kept.kit()}/c/liblibc_c.a"]
+    if program in ("edits", "doors"):
         return [*compiled_s2(), f"{OUT}/libs2ix.a", "-lpthread"]
     if program == "at_once":
         return [f"{OUT}/libs2ix.a", "-lpthread"]
@@ -154,13 +155,14 @@ def linked_with(program):
 
 
 def make_programs():
-    headers = [path for path in files_of(f"{BENCH}/cpp") if path.endswith(".h")]
+    clients = f"{TOP}/clients/cpp"
+    headers = [path for path in files_of(f"{BENCH}/cpp") if path.endswith(".h")] + files_of(clients)
     for program, parts in PROGRAMS.items():
         sources = [f"{BENCH}/cpp/{part}.cpp" for part in parts]
         linked = linked_with(program)
         if not is_current(f"{OUT}/{program}", [*sources, *headers, *(path for path in linked if os.path.isabs(path))]):
             say(f"compiling {program}")
-            run(["g++", *FLAGS, f"-I{BENCH}/cpp", f"-I{TOP}/include", *sources, *linked, *S2, "-o", f"{OUT}/{program}"])
+            run(["g++", *FLAGS, f"-I{BENCH}/cpp", f"-I{TOP}/include", f"-I{clients}", *sources, *linked, *S2, "-o", f"{OUT}/{program}"])
 
 
 def make_all():

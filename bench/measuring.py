@@ -11,7 +11,7 @@ import tempfile
 import making
 from making import OUT, TOP, say
 
-# A figure of one operation, ours and S2's: nanoseconds, milliseconds, bytes or instructions.
+# A figure of one operation, ours and S2's: nanoseconds, milliseconds, bytes or instructions. Both are None if the time is too short to tell.
 Figure = collections.namedtuple("Figure", "ours s2")
 # What S2 doesn't have: the nanoseconds of one operation, the median of many and the most; or their mean, and None.
 Alone = collections.namedtuple("Alone", "middle most")
@@ -41,6 +41,13 @@ class Measured:
     def __init__(self, sizes):
         self.sizes = sizes
         self.times, self.programs, self.instructions, self.edits, self.at_once, self.files, self.clusters = {}, {}, {}, {}, {}, {}, {}
+        self.doors = {}
+
+    def measure_doors(self, seconds):
+        for size in self.sizes:
+            say(f"measuring {size:,} pairs from C and through the header for C++")
+            for name, count, ours, s2 in session_lines([f"{OUT}/doors", str(size), str(seconds), "time"]):
+                self.doors[name, size] = Figure(ours / count, s2 / count)
 
     def measure_sessions(self, seconds):
         for size in self.sizes:
@@ -144,7 +151,7 @@ def answers(words, script):
 def program_times(folder):
     """What each script takes beyond the load of the dump, ours and S2's: the least of some runs, in turns."""
     ours, s2 = commands(folder)
-    least = {}
+    least, noise = {}, {}
     for name in SCRIPTS:
         with open(f"{folder}/{name}", "rb") as file:
             script = file.read()
@@ -152,8 +159,17 @@ def program_times(folder):
             sys.exit(f"bench: S2 and ours answer differently: the script {name}")
         turns = [(milliseconds(ours, script * REPEATS), milliseconds(s2, script * REPEATS)) for _ in range(7)]
         least[name] = [min(side) for side in zip(*turns)]
+        # (the middle one of the turns differs from the least by chance alone)
+        noise[name] = [sorted(side)[len(side) // 2] - min(side) for side in zip(*turns)]
     load = least.pop("load")
-    return {"load": Figure(*load), **{name: Figure(took[0] - load[0], took[1] - load[1]) for name, took in least.items()}}
+    return {"load": Figure(*load), **{name: beyond(load, took, noise["load"], noise[name]) for name, took in least.items()}}
+
+
+def beyond(load, took, *noises):
+    """What a script takes beyond the load, ours and S2's, unless it is at or below the noise of one of the two."""
+    differences = [script - base for script, base in zip(took, load)]
+    is_clear = all(difference > sum(noise) for difference, noise in zip(differences, zip(*noises)))
+    return Figure(*differences) if is_clear else Figure(None, None)
 
 
 def instructions(words):

@@ -29,6 +29,8 @@ def ratio(figure):
 
 def cell(figure):
     """A cell of a table: the ratio, bold if S2 is ahead, and what it is made of."""
+    if figure.ours is None:
+        return "too short to tell"
     told = ratio(figure) if figure.ours <= figure.s2 else f"**{ratio(figure)}**"
     return f"{told} ({digits(figure.ours)} : {digits(figure.s2)})"
 
@@ -51,6 +53,10 @@ def named(name):
     """A figure's name, and what one operation of it is."""
     unit = next((unit for start, unit in UNITS.items() if name.startswith(start)), "")
     return f"{name}, {unit}" if unit else name
+
+
+def doors_table(measured):
+    return table_of(measured.doors, names_of(measured.doors), measured.sizes, "ns, ours : S2")
 
 
 def index_table(measured):
@@ -126,8 +132,8 @@ def instructions_table(measured):
 def tables(measured):
     """All tables as one text."""
     parts = [
-        index_table(measured), at_once_table(measured), edits_table(measured), ids_table(measured), programs_table(measured), files_table(measured),
-        clusters_table(measured),
+        doors_table(measured), index_table(measured), at_once_table(measured), edits_table(measured), ids_table(measured),
+        programs_table(measured), files_table(measured), clusters_table(measured),
     ]
     if measured.instructions:
         parts.append(instructions_table(measured))
@@ -136,10 +142,11 @@ def tables(measured):
 
 def ahead(measured):
     """Where S2 is ahead, a line for each figure."""
-    for figures, start in ((measured.times, ""), (measured.programs, "the program, ")):
+    for figures, start in ((measured.doors, ""), (measured.times, ""), (measured.programs, "the program, ")):
         for name in names_of(figures):
-            behind = [size for size in measured.sizes if (name, size) in figures and figures[name, size].ours > figures[name, size].s2]
-            by_size = bool(start) or is_of_index(name)
+            told_sizes = [size for size in measured.sizes if (name, size) in figures and figures[name, size].ours is not None]
+            behind = [size for size in told_sizes if figures[name, size].ours > figures[name, size].s2]
+            by_size = figures is not measured.times or is_of_index(name)
             told = [ratio(figures[name, size]) + (f" at {size:,}" if by_size else "") for size in behind]
             if told:
                 yield f"- {start}{name}: {', '.join(told)}{' pairs' if by_size else ''}"
@@ -192,7 +199,8 @@ def write(measured):
         counted = "\n".join(["", "## Instructions", "", COUNTED, "", *instructions_table(measured), ""])
     text = PAGE.format(
         machine=machine(), system=system(), s2=making.version_of("libs2-dev"), compiler=said_by("g++", "--version").splitlines()[0],
-        index=joined(index_table(measured)), at_once=joined(at_once_table(measured)), edits=joined(edits_table(measured)),
+        doors=joined(doors_table(measured)), index=joined(index_table(measured)), at_once=joined(at_once_table(measured)),
+        edits=joined(edits_table(measured)),
         ids=joined(ids_table(measured)), programs=joined(programs_table(measured)), files=joined(files_table(measured)),
         clusters=joined(clusters_table(measured)), python=platform.python_version(), numpy=numpy_version(), sqlite=sqlite3.sqlite_version,
         pandas=upstream("python3-pandas"), dask=upstream("python3-dask"), processors=os.cpu_count(), ahead=behind, counted=counted)
@@ -220,6 +228,17 @@ are of the processor, and each is the least of many turns that S2 and ours take 
 ## Where S2 is ahead
 
 {ahead}
+
+## The doors
+
+{doors}
+
+What a caller meets, from C++ by S2's names (`clients/cpp/s2ix.hpp`) and from C, beside S2's own `S2CellIndex`; one thread.
+
+- *VisitIntersectingCells*, *GetIntersectingLabels*: the same program over both, which hands over an `S2CellUnion`. Ours returns a
+  `std::unordered_set`, S2 absl's `flat_hash_set`; into a set that is passed, both fill absl's.
+- *RangeIterator and ContentsIterator*: new ones for each point.
+- *From C*: the rows go into one buffer of the caller's. They are beside S2's `VisitIntersectingCells`.
 
 ## The index
 

@@ -9,6 +9,7 @@
 //
 // Threads may share an Index, and a const one as any const object of C++: each call takes the lock of its Index, so calls on one Index take
 // turns. Calls on different ones run side by side, on an Index and its copies too: give each thread a copy() if it must not wait for others.
+// While glibc says that the process has one thread, no lock is taken.
 //
 // The namespace cell has calls on single cells, cell_union those on unions of cells (s2ix_cells.hpp). FORMATS.md, which says what the texts
 // are, lies in docs of the repository, and in share/doc/s2ix where ./install put this file.

@@ -13,9 +13,11 @@
 #include <functional>
 #include <iterator>
 #include <limits>
+#include <memory>
 #include <mutex>
 #include <ostream>
 #include <string>
+#include <type_traits>
 #include <unordered_set>
 #include <utility>
 #include <vector>
@@ -31,6 +33,12 @@ inline std::string printed(Cell cell) {
   std::snprintf(text, sizeof text, "Invalid: %016" PRIx64, cell.number());
   return text;
 }
+
+// Whether a set can be told how many items it will hold.
+template <class Set, class = void>
+struct HasReserve : std::false_type {};
+template <class Set>
+struct HasReserve<Set, std::void_t<decltype(std::declval<Set&>().reserve(std::size_t{}))>> : std::true_type {};
 
 }  // namespace detail
 
@@ -48,7 +56,7 @@ inline std::string printed(Cell cell) {
 //   Add(cells, label) adds each cell of a union   each of its normal form, as of a union that S2 has normalised
 //   a pair added n times is kept n times          is kept once with a count; visits and iterators give it n times, as S2 does
 //   a visit comes in no stated order              by first shared leaf, then falling level, then rising label
-//   a CellIterator reads the index                has its own copy of the pairs, as they were when it was made
+//   a CellIterator reads the index                gives the pairs as they were when it was made, by rising cell, then label
 //   no Add while an iterator or a visit runs      Build() and edits move the ranges: position a RangeIterator anew. A ContentsIterator
 //                                                 keeps the pairs that StartUnion read. A visitor's adds and edits throw std::logic_error
 //   a RangeIterator is unpositioned at first      is done at first, and its Prev() returns false
@@ -57,6 +65,8 @@ inline std::string printed(Cell cell) {
 //   Advance(n) takes n below 0                    returns false, and the iterator stays
 //   a ContentsIterator states no order            gives the innermost cell first, the labels of one cell rising
 //   GetIntersectingLabels gives absl's set        a std::unordered_set, or any set that is passed
+//
+// A thread that visits or asks for labels keeps up to 80 kB of room for its next query, until it ends.
 //
 // index().undo() takes back one Build(). If a limit would be passed or the journal is full (S2IX_JOURNAL_FULL), Build() and queries throw:
 // the index stays as it was, and the adds wait for the next Build(). Forget() makes room in the journal. Only Clear() drops adds; only
@@ -155,16 +165,18 @@ class BasicS2CellIndex {
     const Index& beneath = built();
     const detail::Handle::Visit visit(beneath.handle_);
     // (in pages that grow, so that a visit which ends early reads little of a long list)
+    detail::Page<Row> page;
     std::size_t from = 0;
-    for (std::size_t most = 256;; most *= 4) {
-      const std::vector<Row> rows = beneath.meet_from(cells, from, most);
-      for (const Row& row : rows) {
+    for (std::size_t most = page.least;; most *= 4) {
+      const std::size_t number = beneath.put_met(cells, from, page.data(), most);
+      for (const Row& row : Items<Row>(page.data(), page.data() + number)) {
         for (std::uint32_t copy = 0; copy < row.count; copy++) {
           if (!visitor(Id(row.cell), static_cast<Label>(row.label))) return false;
         }
       }
-      if (rows.size() < most) return true;
+      if (number < most) return true;
       from += most;
+      page.grow(4 * most);
     }
   }
 
@@ -180,32 +192,64 @@ class BasicS2CellIndex {
   template <class Union, class Set>
   void GetIntersectingLabels(const Union& target, Set* labels) const {
     labels->clear();
-    for (std::uint32_t label : built().labels(target)) labels->insert(static_cast<Label>(label));
+    const Index& beneath = built();
+    const detail::Given cells(target);
+    detail::Page<std::uint32_t> page;
+    const std::size_t number = beneath.put_labels(cells, page);
+    if constexpr (detail::HasReserve<Set>::value) labels->reserve(number);
+    for (std::uint32_t label : Items<std::uint32_t>(page.data(), page.data() + number)) labels->insert(static_cast<Label>(label));
   }
 
-  // Gives all pairs, each copy of each.
+  // Gives all pairs, each copy of each, by rising cell, then label. It reads them page by page: more than one page from a copy of the index,
+  // which shares memory with it.
   class CellIterator {
    public:
-    explicit CellIterator(const BasicS2CellIndex* index) : rows_(index->built().meet_from(Cells(faces, 6), 0, all)) {}
+    explicit CellIterator(const BasicS2CellIndex* index) {
+      const Index& beneath = index->built();
+      detail::check(beneath.handle_.with([&](::s2ix_handle* handle) {
+        std::size_t held = 0;
+        std::uint32_t status = s2ix_len(handle, &held);
+        if (status != S2IX_DONE || held == 0) return status;
+        rows_.resize(std::min(held, page));
+        status = read(handle, 0);
+        if (status != S2IX_DONE || held <= page) return status;
+        // (the other pages are read from a copy, which no edit changes)
+        rest_ = std::make_shared<detail::Handle>();
+        return s2ix_copy(handle, rest_->unlocked());
+      }));
+    }
 
     Id cell_id() const { return Id(rows_[row_].cell); }
     Label label() const { return static_cast<Label>(rows_[row_].label); }
     LabelledCell labelled_cell() const { return LabelledCell(cell_id(), label()); }
 
     // Whether all pairs have been given. If so, call no other method.
-    bool done() const { return row_ == rows_.size(); }
+    bool done() const { return row_ == size_; }
 
     void Next() {
-      if (++copy_ == rows_[row_].count) {
-        row_++;
-        copy_ = 0;
-      }
+      if (++copy_ < rows_[row_].count) return;
+      copy_ = 0;
+      if (++row_ < size_ || rest_ == nullptr || size_ < page) return;
+      from_ += size_;
+      detail::check(rest_->with([&](::s2ix_handle* handle) { return read(handle, from_); }));
     }
 
    private:
+    static constexpr std::size_t page = 1024;
+
+    // Reads the page of pairs from a place on.
+    std::uint32_t read(::s2ix_handle* handle, std::size_t from) {
+      row_ = 0;
+      return s2ix_pairs(handle, from, rows_.data(), rows_.size(), &size_);
+    }
+
+    // A page of pairs, how many there are in it, and the place of its first one.
     std::vector<Row> rows_;
+    std::size_t size_ = 0, from_ = 0;
     std::size_t row_ = 0;
     std::uint32_t copy_ = 0;
+    // What all pages are read from, if there are several.
+    std::shared_ptr<detail::Handle> rest_;
   };
 
   class ContentsIterator;
@@ -226,7 +270,14 @@ class BasicS2CellIndex {
     bool done() const { return start_ == end_of_leaves; }
 
     // Whether no pair lies over the range; true if the iterator is done.
-    bool is_empty() const { return is_empty_; }
+    bool is_empty() const {
+      if (!knows_empty_) {
+        std::uint64_t start = 0, limit = 0;
+        with([&](::s2ix_handle* handle) { return s2ix_range(handle, place_, &start, &limit, &is_empty_); });
+        knows_empty_ = true;
+      }
+      return is_empty_;
+    }
 
     void Begin() { go(0); }
 
@@ -245,7 +296,13 @@ class BasicS2CellIndex {
     }
 
     // Goes to the range that has a leaf.
-    void Seek(Id target) { go(place_of(target)); }
+    void Seek(Id target) {
+      const Range found = index_->index_.find(raw(target));
+      place_ = found.place;
+      start_ = found.start;
+      limit_ = found.limit;
+      knows_empty_ = false;
+    }
 
     // Goes n ranges on and returns true, if there is a range; else it returns false and stays.
     bool Advance(int n) {
@@ -280,6 +337,7 @@ class BasicS2CellIndex {
       start_ = start;
       limit_ = limit;
       is_empty_ = is_empty;
+      knows_empty_ = true;
     }
 
    private:
@@ -288,7 +346,8 @@ class BasicS2CellIndex {
     const BasicS2CellIndex* index_;
     std::size_t place_ = 0;
     std::uint64_t start_ = end_of_leaves, limit_ = end_of_leaves;
-    bool is_empty_ = true;
+    // (Seek leaves it to is_empty() to ask for this)
+    mutable bool is_empty_ = true, knows_empty_ = true;
   };
 
   // Goes along the ranges over which some pair lies.
@@ -352,7 +411,7 @@ class BasicS2CellIndex {
       limit_ = range.limit_;
       row_ = copy_ = 0;
       rows_.clear();
-      if (!range.is_empty_) index_->index_.contents(range.place_, told_, rows_);
+      if (!range.knows_empty_ || !range.is_empty_) read(range.place_);
       if (done()) told_ = limit_;
     }
 
@@ -370,8 +429,15 @@ class BasicS2CellIndex {
     }
 
    private:
+    // Reads the pairs over the range at a place that were not given yet.
+    void read(std::size_t place) {
+      detail::check(index_->index_.handle_.with([&](::s2ix_handle* handle) {
+        return rows_.fill([&](Row* to, std::size_t room, std::size_t* number) { return s2ix_contents(handle, place, told_, to, room, number); });
+      }));
+    }
+
     const BasicS2CellIndex* index_ = nullptr;
-    std::vector<Row> rows_;
+    detail::FewRows rows_;
     std::size_t row_ = 0;
     std::uint32_t copy_ = 0;
     // Pairs whose cells begin before `told_` were given over an earlier range. The last range begins and ends with these leaves.
@@ -380,12 +446,6 @@ class BasicS2CellIndex {
 
  private:
   static constexpr std::uint64_t end_of_leaves = 0xc000000000000001;
-
-  static constexpr std::size_t all = std::numeric_limits<std::size_t>::max();
-
-  // The cells of the six faces, which share a leaf with each cell.
-  static constexpr std::uint64_t faces[6] = {0x1000000000000000, 0x3000000000000000, 0x5000000000000000,
-                                             0x7000000000000000, 0x9000000000000000, 0xb000000000000000};
 
   static std::uint64_t raw(const Id& id) { return Cell(id).number(); }
 

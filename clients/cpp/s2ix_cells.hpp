@@ -152,14 +152,21 @@ class Cells {
   [[nodiscard]] const std::uint64_t* data() const noexcept { return own_.empty() ? data_ : own_.data(); }
   [[nodiscard]] std::size_t size() const noexcept { return own_.empty() ? size_ : own_.size(); }
 
- private:
-  static constexpr std::uint64_t none = 0;
-
+ protected:
   template <class Items>
   void copy(const Items& cells) {
     own_.reserve(static_cast<std::size_t>(std::distance(std::begin(cells), std::end(cells))));
     for (const auto& cell : cells) own_.push_back(Cell(cell).number());
   }
+
+  // Refers to numbers that live as long as this.
+  void refer_to(const std::uint64_t* data, std::size_t size) noexcept {
+    data_ = data;
+    size_ = size;
+  }
+
+ private:
+  static constexpr std::uint64_t none = 0;
 
   std::vector<std::uint64_t> own_;
   const std::uint64_t* data_ = &none;
@@ -169,7 +176,7 @@ class Cells {
 namespace detail {
 
 // The Cells that a call takes. It has no copy of numbers in braces, in a vector or in other Cells, since these live as long as the call.
-// So it is for parameters alone.
+// So it is for parameters alone. Few cells of another range lie in it, and want no memory.
 class Given : public Cells {
  public:
   using Cells::Cells;
@@ -177,8 +184,23 @@ class Given : public Cells {
   Given(const Cells& cells) noexcept : Cells(cells.data(), cells.size()) {}
   Given(const std::vector<std::uint64_t>& cells) noexcept : Cells(cells.data(), cells.size()) {}
   Given(std::initializer_list<std::uint64_t> cells) noexcept : Cells(cells.begin(), cells.size()) {}
+  template <class Items, class = std::enable_if_t<HasCells<Items>::value>>
+  Given(const Items& cells) {
+    const auto size = static_cast<std::size_t>(std::distance(std::begin(cells), std::end(cells)));
+    if (size > few) {
+      copy(cells);
+    } else {
+      std::transform(std::begin(cells), std::end(cells), few_, [](const auto& cell) { return Cell(cell).number(); });
+      refer_to(few_, size);
+    }
+  }
   Given(const Given&) = delete;
   Given& operator=(const Given&) = delete;
+
+ private:
+  static constexpr std::size_t few = 16;
+
+  std::uint64_t few_[few];
 };
 
 // The bytes of a text: never a null pointer, even for none.

@@ -4,13 +4,12 @@
 
 #include "s2ix_cells.hpp"
 #include "s2ix_each.hpp"
+#include "s2ix_handle.hpp"
 
 #include <algorithm>
-#include <atomic>
 #include <cstddef>
 #include <cstdint>
 #include <limits>
-#include <mutex>
 #include <optional>
 #include <stdexcept>
 #include <string>
@@ -35,62 +34,6 @@ struct Range {
 };
 
 namespace detail {
-
-// A handle. One call at a time takes it, from any thread. Move it only while no call runs.
-class Handle {
- public:
-  Handle() noexcept = default;
-  Handle(Handle&& other) noexcept : handle_(std::exchange(other.handle_, ::s2ix_handle{})) {}
-  Handle& operator=(Handle&& other) noexcept {
-    if (this != &other) {
-      s2ix_close(&handle_);
-      handle_ = std::exchange(other.handle_, ::s2ix_handle{});
-    }
-    return *this;
-  }
-  ~Handle() { s2ix_close(&handle_); }
-
-  // Makes a call with the handle, while no other runs.
-  template <class Call>
-  auto with(Call call) const {
-    const std::lock_guard<std::mutex> held(mutex_);
-    return call(&handle_);
-  }
-
-  // The same for a call that may change the store: it is refused during a visit.
-  template <class Call>
-  auto edit(Call call) {
-    const std::lock_guard<std::mutex> held(mutex_);
-    check_unvisited();
-    return call(&handle_);
-  }
-
-  // Throws during a visit.
-  void check_unvisited() const {
-    if (visits_ > 0) throw std::logic_error("s2ix: an index can't change while it is visited");
-  }
-
-  // A visit of the store by several calls, which lasts as long as this lives.
-  class Visit {
-   public:
-    explicit Visit(const Handle& handle) noexcept : visits_(handle.visits_) { visits_++; }
-    Visit(const Visit&) = delete;
-    Visit& operator=(const Visit&) = delete;
-    ~Visit() { visits_--; }
-
-   private:
-    std::atomic<std::size_t>& visits_;
-  };
-
-  // The handle itself, without the lock: no other call may run meanwhile.
-  ::s2ix_handle* unlocked() noexcept { return &handle_; }
-
- private:
-  mutable std::mutex mutex_;
-  mutable std::atomic<std::size_t> visits_{0};
-  // (a query changes no store, but it takes the store out of the handle and puts it back)
-  mutable ::s2ix_handle handle_{};
-};
 
 // The entries that lead from the pairs of a label to one copy of each of some cells, both by rising cell.
 inline std::vector<Entry> led_to(const std::vector<Row>& held, std::uint32_t label, const std::vector<std::uint64_t>& cells) {
@@ -234,8 +177,7 @@ class Index {
     if (wanted.empty()) return drop_label(label);
     return edit([&](::s2ix_handle* handle, std::size_t* to) {
       std::vector<Row> held;
-      const std::uint32_t status = detail::fill(
-          held, [&](Row* rows, std::size_t room, std::size_t* number) { return s2ix_of_label(handle, label, rows, room, number); });
+      const std::uint32_t status = fill_of(handle, label, held, s2ix_of_label, 2 * wanted.size());
       if (status != S2IX_DONE) return status;
       const std::vector<Entry> entries = detail::led_to(held, label, wanted);
       static constexpr Entry none{};
@@ -721,16 +663,22 @@ class Index {
     detail::check(status, wrong);
   }
 
-  // The same for a label's items. The call reads all pairs for them, so room for some of these costs little more.
+  // The same for a label's items.
   template <class Items, class Call>
   void list_of(std::uint32_t label, Items& items, Call call) const {
-    const std::uint32_t status = handle_.with([&](::s2ix_handle* handle) {
-      std::size_t pairs = 0;
-      s2ix_len(handle, &pairs);
-      return detail::fill(
-          items, [&](auto* to, std::size_t room, std::size_t* number) { return call(handle, label, to, room, number); }, pairs / 16);
-    });
+    const std::uint32_t status = handle_.with([&](::s2ix_handle* handle) { return fill_of(handle, label, items, call); });
     detail::check(status, [&](std::uint32_t why) { return detail::wrong_label(why, {label}); });
+  }
+
+  // The same by a handle. The call reads all pairs for the items, so room for some of these costs little more. A label has no more items
+  // than there are pairs, and may be likely to have so many.
+  template <class Items, class Call>
+  static std::uint32_t fill_of(::s2ix_handle* handle, std::uint32_t label, Items& items, Call call, std::size_t likely = 0) {
+    std::size_t pairs = 0;
+    s2ix_len(handle, &pairs);
+    return detail::fill(
+        items, [&](auto* to, std::size_t room, std::size_t* number) { return call(handle, label, to, room, number); },
+        std::min(pairs, std::max(pairs / 16, likely)));
   }
 
   // Puts what a call finds for many leaves, or for many targets, in place of what the lists held.
@@ -747,6 +695,36 @@ class Index {
     const std::uint32_t status =
         handle_.with([&](::s2ix_handle* handle) { return detail::fill_met<Item>(handle, call, targets, ends, items, place); });
     detail::check(status, [&](std::uint32_t why) { return detail::wrong_target(why, targets, place); });
+  }
+
+  // Puts a page of what meet gives, from a place on, into some room, and returns how many pairs that is: less than `room` only if the list
+  // ends there.
+  std::size_t put_met(const Cells& cells, std::size_t from, Row* rows, std::size_t room) const {
+    std::size_t number = 0;
+    const std::uint32_t status = handle_.with([&](::s2ix_handle* handle) {
+      // (a leaf has a quicker call, which puts the same pairs in the same order)
+      if (from == 0 && cells.size() == 1 && s2ix_cell_is_leaf(*cells.data())) {
+        const std::uint32_t found = s2ix_at(handle, *cells.data(), rows, room, &number);
+        if (found != S2IX_NO_ROOM) return found;
+      }
+      return s2ix_meet_from(handle, cells.data(), cells.size(), from, rows, room, &number);
+    });
+    detail::check(status, [&](std::uint32_t why) { return detail::wrong_in(why, cells); });
+    return number;
+  }
+
+  // Puts what labels gives into a page, and returns how many labels that is.
+  std::size_t put_labels(const Cells& cells, detail::Page<std::uint32_t>& page) const {
+    std::size_t number = 0;
+    const std::uint32_t status = handle_.with([&](::s2ix_handle* handle) {
+      const auto call = [&] { return s2ix_labels(handle, cells.data(), cells.size(), page.data(), page.size(), &number); };
+      const std::uint32_t found = call();
+      if (found != S2IX_NO_ROOM) return found;
+      page.grow(number);
+      return call();
+    });
+    detail::check(status, [&](std::uint32_t why) { return detail::wrong_in(why, cells); });
+    return number;
   }
 
   // The pairs that a call puts from a place on: at most `most`, and at most as many as are held after the place.

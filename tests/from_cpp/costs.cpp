@@ -6,6 +6,8 @@
 
 #include <cstdlib>
 #include <iostream>
+#include <list>
+#include <set>
 
 namespace {
 
@@ -69,6 +71,9 @@ COUNTED(s2ix_of_label, (Handle handle, std::uint32_t label, Rows rows, Size room
 COUNTED(s2ix_pairs, (Handle handle, Size from, Rows rows, Size room, Number number), (handle, from, rows, room, number))
 COUNTED(s2ix_contents, (Handle handle, Size place, std::uint64_t from, Rows rows, Size room, Number number),
         (handle, place, from, rows, room, number))
+COUNTED(s2ix_find, (Handle handle, std::uint64_t leaf, Number place, std::uint64_t* start, std::uint64_t* limit), (handle, leaf, place, start, limit))
+COUNTED(s2ix_range, (Handle handle, Size place, std::uint64_t* start, std::uint64_t* limit, bool* is_empty),
+        (handle, place, start, limit, is_empty))
 COUNTED(s2ix_dump, (Handle handle, std::uint8_t* text, Size room, Number number), (handle, text, room, number))
 COUNTED(s2ix_export, (Handle handle, std::uint8_t* text, Size room, Number number), (handle, text, room, number))
 COUNTED(s2ix_journal, (Handle handle, std::uint8_t* text, Size room, Number number), (handle, text, room, number))
@@ -159,6 +164,21 @@ void AsksOnce() {
   EXPECT(cost.asked == 1);
 }
 
+// set_label has a union made normal, and asks once for what the label has: if that is short, or at most twice what it gets, or all there is.
+void SetsOnce() {
+  s2ix::Index index = Zones();
+  std::vector<std::uint64_t> cells, others;
+  for (std::uint64_t k = 0; k < kMany; k++) (k % 2 == 0 ? cells : others).push_back(kFace + 1 + 2 * k);
+  EXPECT(CostOf([&] { EXPECT(index.set_label(1, {kOther}) == 3 + kMany / 20); }).asked == 2);
+  EXPECT(CostOf([&] { EXPECT(index.set_label(5, cells) == 1 + kMany / 2); }).asked == 2);
+  EXPECT(CostOf([&] { EXPECT(index.set_label(5, others) == kMany); }).asked == 2);
+  EXPECT(CostOf([&] { EXPECT(index.set_label(5, {kFirst}) == 1 + kMany / 2); }).asked == 3);
+  s2ix::Index alone;
+  alone.add_union(cells, 5);
+  EXPECT(CostOf([&] { EXPECT(alone.set_label(5, others) == kMany); }).asked == 2);
+  EXPECT(alone.of_label(5).size() == kMany / 2);
+}
+
 // What is known of a list beforehand is used: the library makes it once.
 void AsksOnceForWhatIsKnown() {
   s2ix::Index index = Zones();
@@ -213,11 +233,53 @@ void AsksOnceForEach() {
   EXPECT(PagesOf([&] { index.at_each({kLeaf}, rows); }) < 64 && rows.rows.size() == 2);
 }
 
+// A query of S2's names asks once, and takes no memory from the second time on; the iterators ask once for what they go to, or for a page.
+void AsksOnceAsInS2() {
+  s2ix::S2CellIndex index;
+  for (int label = 0; label < 1000; label++) index.Add(kFirst, label);
+  for (std::uint64_t k = 0; k < kMany; k++) index.Add(kOther + 1 + 2 * k, 1);
+  index.Build();
+  const std::vector<std::uint64_t> leaf = {kLeaf};
+  const std::list<std::uint64_t> target(16, kFirst);
+  std::set<int> labels;
+  int visited = 0;
+  const s2ix::S2CellIndex::CellVisitor visitor = [&](std::uint64_t, int) { return ++visited > 0; };
+  for (const int taken : {1, 0}) {
+    EXPECT((CostOf([&] { index.VisitIntersectingCells(leaf, visitor); }).taken > 0) == (taken > 0));
+    const Cost cost = CostOf([&] { index.VisitIntersectingCells(target, visitor); });
+    EXPECT(cost.asked == 1 && cost.taken == 0 && visited == 2000);
+    visited = 0;
+    index.GetIntersectingLabels(target, &labels);
+  }
+  EXPECT(CostOf([&] { index.VisitIntersectingCells(leaf, visitor); }).asked == 1 && visited == 1000);
+  // (a visit within another has room of its own)
+  Cost cost = CostOf([&] {
+    index.VisitIntersectingCells(leaf, [&](std::uint64_t, int) { return index.VisitIntersectingCells(target, visitor) && ++visited == 0; });
+  });
+  EXPECT(cost.asked == 2 && cost.taken > 0 && cost.taken <= 2048 * sizeof(s2ix::Row));
+  cost = CostOf([&] { index.GetIntersectingLabels(target, &labels); });
+  EXPECT(cost.asked == 1 && labels.size() == 1000);
+  cost = CostOf([&] {
+    s2ix::S2CellIndex::RangeIterator range(&index);
+    range.Seek(kOther + 1);
+    s2ix::S2CellIndex::ContentsIterator contents(&index);
+    contents.StartUnion(range);
+    EXPECT(!contents.done());
+  });
+  EXPECT(cost.asked == 2 && cost.taken == 0);
+  cost = CostOf([&] {
+    for (s2ix::S2CellIndex::CellIterator cells(&index); !cells.done(); cells.Next()) visited++;
+  });
+  EXPECT(cost.asked == (1000 + kMany) / 1024 + 1 && cost.taken <= 1200 * sizeof(s2ix::Row));
+}
+
 }  // namespace
 
 int main() {
+  AsksOnceAsInS2();
   LeavesRoomUntouched();
   AsksOnce();
+  SetsOnce();
   AsksOnceForWhatIsKnown();
   AsksOnceForEach();
   std::cout << passed << " passed, " << failed << " failed\n";

@@ -54,6 +54,20 @@ std::string TextOf(const std::vector<Item>& items) {
 std::string TextOf(const s2ix::RowsOfEach& found) { return TextOf(found.ends) + TextOf(found.rows); }
 std::string TextOf(const s2ix::LabelsOfEach& found) { return TextOf(found.ends) + TextOf(found.labels); }
 
+// What S2's names find over the pairs of an index.
+std::string AsInS2(const s2ix::Index& index) {
+  s2ix::S2CellIndex same;
+  same.index().add_all(index.pairs(0, 10));
+  std::string text;
+  same.VisitIntersectingCells(std::vector<std::uint64_t>{kFace}, [&](std::uint64_t cell, int label) {
+    text += TextOf(cell) + ":" + TextOf(label) + "\n";
+    return true;
+  });
+  text += TextOf(same.GetIntersectingLabels(std::vector<std::uint64_t>{kFace}).size());
+  for (s2ix::S2CellIndex::CellIterator cells(&same); !cells.done(); cells.Next()) text += TextOf(cells.cell_id());
+  return text;
+}
+
 // A call, whose answer becomes a text when no growth is refused any more.
 struct Call {
   template <class Made>
@@ -111,6 +125,7 @@ const Call kCalls[] = {
     {"dump", [](s2ix::Index& index) { return index.dump(); }},
     {"journal", [](s2ix::Index& index) { return index.journal(); }},
     {"journal_from", [](s2ix::Index& index) { return index.journal_from(2); }},
+    {"S2's names", [](s2ix::Index& index) { return AsInS2(index); }},
     {"held_labels", [](s2ix::Index& index) { return index.held_labels(); }},
     {"export_json", [](s2ix::Index& index) { return index.export_json(); }},
     {"line of an edit", [](s2ix::Index& index) { return index.line("add 1 1"); }},

@@ -21,7 +21,7 @@ void Expect(int line, bool holds) {
 #define EXPECT(holds) Expect(__LINE__, holds)
 
 constexpr std::uint64_t kFirst = 0x0400000000000000, kSecond = 0x0c00000000000000, kFace = 0x1000000000000000, kOther = 0x3000000000000000;
-constexpr int kThreads = 8, kRounds = 4000, kLabels = 1000;
+constexpr int kThreads = 8, kRounds = 4000, kLabels = 1500;
 
 using Target = std::vector<std::uint64_t>;
 
@@ -125,14 +125,35 @@ void QueriedAsInS2() {
       contents.StartUnion(range);
       for (visited = 0; !contents.done(); contents.Next()) visited++;
       EXPECT(visited == kLabels && range.start_id() == 1 && !range.Prev());
+      visited = 0;
+      EXPECT(index.VisitIntersectingCells(Target{kFirst + 1}, [&](std::uint64_t, int label) {
+        return label % 500 != 0 || index.GetIntersectingLabels(Target{kSecond}).empty() ? ++visited > 0 : false;
+      }));
+      for (s2ix::S2CellIndex::CellIterator cells(&index); !cells.done(); cells.Next()) visited--;
+      range.Seek(kSecond + 1);
+      EXPECT(visited == 0 && range.is_empty());
     });
     EXPECT(index.index().done_count() == 1);
   }
 }
 
+// An index is queried while the process has one thread, then by a visitor that starts threads, and when they have ended.
+void QueriedBeforeAndAfter() {
+  s2ix::S2CellIndex index;
+  for (int label = 0; label < kLabels; label++) index.Add(kFirst, label);
+  EXPECT(index.num_cells() == kLabels);
+  int visited = 0;
+  EXPECT(index.VisitIntersectingCells(Target{kFirst}, [&](std::uint64_t, int) {
+    if (visited++ == 0) AtOnce([&] { EXPECT(index.GetIntersectingLabels(Target{kFace}).size() == kLabels); });
+    return true;
+  }));
+  EXPECT(visited == kLabels && index.index().drop_label(1) == 1 && index.num_cells() == kLabels - 1);
+}
+
 }  // namespace
 
 int main() {
+  QueriedBeforeAndAfter();
   Queried();
   QueriedWhileEdited();
   EditedAtOnce();

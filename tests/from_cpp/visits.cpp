@@ -1,0 +1,241 @@
+// Asks an S2CellIndex for more than the room that lies ready for an answer, within other queries, from visitors that throw, and as a thread
+// ends. It ends with 'N passed, M failed', after a line for each wrong answer.
+#include "s2ix.hpp"
+
+#include <iostream>
+#include <set>
+#include <thread>
+
+namespace {
+
+int passed, failed;
+
+void Expect(int line, bool holds) {
+  (holds ? passed : failed)++;
+  if (!holds) std::cout << "visits.cpp:" << line << ": a wrong answer\n";
+}
+
+#define EXPECT(holds) Expect(__LINE__, holds)
+
+using Index = s2ix::S2CellIndex;
+using Cell = std::uint64_t;
+using Target = std::vector<Cell>;
+using Pairs = std::vector<std::pair<Cell, int>>;
+
+// A leaf with its parent of level 1, the face around both, a leaf on another face, and a number that is no cell's.
+constexpr Cell kLeaf = 0x0400000000000001, kFirst = 0x0400000000000000, kFace = 0x1000000000000000, kOther = 0x3000000000000001, kNoCell = 6;
+
+// A class of ids, as S2's.
+struct SomeId {
+  explicit SomeId(Cell raw = 0) : raw_(raw) {}
+  Cell id() const { return raw_; }
+
+ private:
+  Cell raw_;
+};
+
+Pairs Visited(const Index& index, const Target& target) {
+  Pairs pairs;
+  EXPECT(index.VisitIntersectingCells(target, [&](Cell cell, int label) { return pairs.emplace_back(cell, label), true; }));
+  return pairs;
+}
+
+// What a list of rows gives to a visit.
+Pairs CopiesOf(const std::vector<s2ix::Row>& rows) {
+  Pairs pairs;
+  for (const s2ix::Row& row : rows) pairs.insert(pairs.end(), row.count, {row.cell, static_cast<int>(row.label)});
+  return pairs;
+}
+
+// So many labels, in turns at the face, at the cell in it, and at the leaf; each seventh has two copies.
+Index Zones(int labels) {
+  Index index;
+  for (int label = 0; label < labels; label++) {
+    const Cell cells[] = {kFace, kFirst, kLeaf};
+    for (int copy = 0; copy < (label % 7 == 0 ? 2 : 1); copy++) index.Add(cells[label % 3], label);
+  }
+  index.Build();
+  return index;
+}
+
+// A leaf is visited as any target is: in the same order, and to the same end.
+void LeavesAsTargets() {
+  for (int labels : {0, 1, 256, 900, 1600, 6000}) {
+    const Index index = Zones(labels);
+    const Pairs pairs = Visited(index, {kLeaf});
+    EXPECT(pairs == CopiesOf(index.index().meet({kLeaf})) && pairs == CopiesOf(index.index().at(kLeaf)) && pairs == Visited(index, {kLeaf, kLeaf}));
+    EXPECT(Visited(index, {kOther}).empty() && Visited(index, {}).empty());
+    for (std::size_t most : {std::size_t{1}, pairs.size() / 2, pairs.size()}) {
+      std::size_t visited = 0;
+      if (most == 0 || pairs.empty()) continue;
+      EXPECT(!index.VisitIntersectingCells(Target{kLeaf}, [&](Cell, int) { return ++visited < most; }) && visited == most);
+    }
+  }
+  const Index index = Zones(3);
+  for (const Cell wrong : {kNoCell, Cell{0xd000000000000001}, Cell{0}}) {
+    try {
+      index.VisitIntersectingCells(Target{wrong}, [](Cell, int) { return true; });
+      EXPECT(false);
+    } catch (const s2ix::Error& error) {
+      EXPECT(error.status() == S2IX_NO_CELL && error.value() == wrong && error.place() == std::size_t{0});
+    }
+  }
+}
+
+// Few ids lie in the call, and many in a vector: the answers are the same.
+void TargetsOfIds() {
+  const Index index = Zones(30);
+  for (std::size_t many : {1, 15, 16, 17, 40}) {
+    const std::vector<SomeId> ids(many, SomeId(kFirst));
+    int visited = 0;
+    EXPECT(index.VisitIntersectingCells(ids, [&](Cell, int) { return ++visited > 0; }) && visited == index.num_cells());
+    EXPECT(index.GetIntersectingLabels(ids).size() == 30);
+  }
+}
+
+// A set that only what the header needs is known of.
+struct OwnSet {
+  void clear() { labels.clear(); }
+  void insert(int label) { labels.insert(label); }
+  std::set<int> labels;
+};
+
+void ManyLabels() {
+  for (int labels : {0, 1, 1024, 1025, 20000}) {
+    const Index index = Zones(labels);
+    std::set<int> wanted;
+    for (int label = 0; label < labels; label++) wanted.insert(label);
+    std::set<int> ordered = {-5};
+    OwnSet own{{-5}};
+    std::unordered_set<int> hashed = {-5};
+    index.GetIntersectingLabels(Target{kFace}, &ordered);
+    index.GetIntersectingLabels(Target{kFace}, &own);
+    index.GetIntersectingLabels(Target{kFace}, &hashed);
+    EXPECT(ordered == wanted && own.labels == wanted && hashed == std::unordered_set<int>(wanted.begin(), wanted.end()));
+    EXPECT(index.GetIntersectingLabels(Target{kOther}).empty() && index.GetIntersectingLabels(Target{kFace}) == hashed);
+  }
+}
+
+// A visit in a visit in a visit, each of several pages: none sees the rows of another.
+void VisitsInVisits() {
+  const Index index = Zones(1500);
+  const Pairs over = Visited(index, {kLeaf}), under = Visited(index, {kFace});
+  std::size_t outer = 0, whole = 0;
+  EXPECT(index.VisitIntersectingCells(Target{kFace}, [&](Cell cell, int label) {
+    EXPECT(under[outer++] == std::make_pair(cell, label));
+    if (outer % 250 != 1) return true;
+    std::size_t inner = 0;
+    index.VisitIntersectingCells(Target{kLeaf}, [&](Cell inner_cell, int inner_label) {
+      EXPECT(over[inner++] == std::make_pair(inner_cell, inner_label));
+      if (inner % 300 != 1) return true;
+      EXPECT(Visited(index, {kFirst}) == under && index.GetIntersectingLabels(Target{kFirst}).size() == 1500);
+      return true;
+    });
+    whole += inner == over.size();
+    return true;
+  }));
+  EXPECT(outer == under.size() && whole == (outer + 249) / 250);
+}
+
+// A visitor's exception ends the visit and goes on; then the index can be changed and visited again.
+void VisitorsThatThrow() {
+  Index index = Zones(1500);
+  for (int most : {1, 1024, 1025, 1600}) {
+    int visited = 0;
+    const auto visit = [&](const Target& target) {
+      index.VisitIntersectingCells(target, [&](Cell, int) -> bool { return ++visited < most ? true : throw most; });
+    };
+    for (const Cell cell : {kLeaf, kFace}) {
+      visited = 0;
+      try {
+        visit({cell});
+        EXPECT(false);
+      } catch (int thrown) {
+        EXPECT(thrown == most && visited == most);
+      }
+    }
+    EXPECT(index.index().add(kOther, 5) == 1 && Visited(index, {kOther}).size() == 1 && index.index().undo() == 1);
+    EXPECT(Visited(index, {kFace}).size() == 1715);
+  }
+}
+
+// A CellIterator gives what was held when it was made, page after page, and so does a copy of it.
+void CellsAsTheyWere() {
+  for (int labels : {0, 1, 1023, 1024, 1025, 5000}) {
+    Index index = Zones(labels);
+    std::multiset<std::pair<Cell, int>> wanted, given, copied;
+    for (const auto& pair : Visited(index, {kFace})) wanted.insert(pair);
+    Index::CellIterator cells(&index);
+    if (labels > 2) index.index().drop_label(2);
+    index.Add(kOther, 1);
+    index.Build();
+    for (std::size_t k = 0; k < wanted.size() / 2; k++, cells.Next()) given.insert({cells.cell_id(), cells.label()});
+    copied = given;
+    for (Index::CellIterator copy = cells; !copy.done(); copy.Next()) copied.insert({copy.cell_id(), copy.label()});
+    index.Clear();
+    for (; !cells.done(); cells.Next()) given.insert({cells.cell_id(), cells.label()});
+    EXPECT(given == wanted && copied == wanted);
+  }
+}
+
+// Contents that don't lie in the iterator itself, and copies of it; and whether pairs lie over a range that was sought.
+void ContentsOfSoughtRanges() {
+  for (int labels : {1, 15, 16, 17, 100, 1000}) {
+    const Index index = Zones(labels);
+    Index::RangeIterator range(&index), other(&index);
+    range.Seek(kLeaf);
+    other.Seek(kOther);
+    Index::ContentsIterator contents(&index);
+    contents.StartUnion(other);
+    EXPECT(contents.done() && other.is_empty() && !range.is_empty() && !range.is_empty());
+    contents.StartUnion(range);
+    Pairs given, copied;
+    const Index::ContentsIterator start = contents;
+    for (; !contents.done(); contents.Next()) given.emplace_back(contents.cell_id(), contents.label());
+    for (Index::ContentsIterator copy = start; !copy.done(); copy.Next()) copied.emplace_back(copy.cell_id(), copy.label());
+    EXPECT(given == CopiesOf(index.index().at(kLeaf)) && copied == given);
+    contents.StartUnion(range);
+    EXPECT(contents.done());
+    contents.Clear();
+    contents.StartUnion(range);
+    EXPECT(!contents.done() && contents.cell_id() == given[0].first);
+  }
+}
+
+// Queries once more while the objects of its thread are destroyed.
+struct Last {
+  const Index* index = nullptr;
+  std::size_t* visited = nullptr;
+
+  ~Last() {
+    if (index != nullptr) *visited = Visited(*index, {kFace}).size() + index->GetIntersectingLabels(Target{kFace}).size();
+  }
+};
+
+thread_local Last last;
+
+void AsAThreadEnds() {
+  const Index index = Zones(70);
+  std::size_t visited = 0;
+  std::thread([&] {
+    last.index = &index;
+    last.visited = &visited;
+    EXPECT(Visited(index, {kFace}).size() == 80 && index.GetIntersectingLabels(Target{kFace}).size() == 70);
+  }).join();
+  EXPECT(visited == 150);
+}
+
+}  // namespace
+
+int main() {
+  LeavesAsTargets();
+  TargetsOfIds();
+  ManyLabels();
+  VisitsInVisits();
+  VisitorsThatThrow();
+  CellsAsTheyWere();
+  ContentsOfSoughtRanges();
+  AsAThreadEnds();
+  std::cout << passed << " passed, " << failed << " failed\n";
+  return failed == 0 ? 0 : 1;
+}
