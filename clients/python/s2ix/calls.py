@@ -1,15 +1,18 @@
 """How an index makes its calls: its handle, the memory that they write to, and which edit came last."""
 from __future__ import annotations
 
+import atexit
 import ctypes
 import weakref
 from array import array
 from ctypes import addressof
+from functools import partial
 from itertools import chain
 from typing import Any, Callable, Iterator, Optional, Tuple, TypeVar, Union
 
 from s2ix import library
 from s2ix.given import wrong_cell
+from s2ix.groups import OpenGroup
 from s2ix.refusals import NoCell, NoRoom, expect
 from s2ix.rows import PACKED, WORD, Row, rows_of
 
@@ -22,10 +25,24 @@ _FIRST = 4096
 _Buffer = Tuple[memoryview, memoryview, Tuple[Any, ...], int, int]
 
 
+class _Dropped(weakref.ref):  # type: ignore[type-arg]
+    """Frees a store when its index is dropped: what is called then, with this, is the library's call itself. So no line of Python runs,
+    before which an interrupt might come, be swallowed and leave the store."""
+
+    __slots__ = ("_as_parameter_",)
+    _as_parameter_: Any
+
+
+# For the address of each handle what waits until its index is dropped.
+_DROPPED: dict[int, tuple[object, object]] = {}
+# (when the process ends, other threads may still be in a call)
+atexit.register(_DROPPED.clear)
+
+
 class Calls:
     """A handle of the library, and calls over it."""
 
-    __slots__ = ("_calls", "_handle", "_at_handle", "_close", "_ask_at", "_buffers", "_edit", "_running", "_group")
+    __slots__ = ("_calls", "_handle", "_at_handle", "_ask_at", "_buffers", "_edit", "_running", "_groups")
 
     def _prepare(self) -> None:
         """Makes a closed handle, and what its calls want beside it."""
@@ -34,15 +51,15 @@ class Calls:
         self._at_handle = addressof(self._handle)
         # A second s2ix_at, which takes objects of ctypes as they are: to look at their types takes a third of a call's time.
         self._ask_at: Callable[..., int] = self._calls["s2ix_at"]
-        self._close = weakref.finalize(self, self._calls.s2ix_close, ctypes.byref(self._handle))
-        # (when the process ends, other threads may still be in a call)
-        self._close.atexit = False
+        dropped = _Dropped(self, library.load().s2ix_close)
+        dropped._as_parameter_ = ctypes.byref(self._handle)
+        _DROPPED[self._at_handle] = dropped, weakref.ref(self, partial(_DROPPED.pop, self._at_handle))
         # The buffers that no call uses. A call takes the last one by pop, so that no other call has it, and puts it back.
         self._buffers: list[_Buffer] = []
         # An object for the last edit, and one for each edit that runs, so that an iterator sees whether another came.
         self._edit, self._running = object(), set[object]()
-        # How many changes could be undone when the group began, if there is one.
-        self._group: Optional[int] = None
+        # The groups that are open, the innermost one last.
+        self._groups: list[OpenGroup] = []
 
     def _listed(self, call: Callable[..., int], size: int, read: Callable[[memoryview], _Read], *given: Union[int, bytes]) -> _Read:
         """Makes a call that lists items of so many bytes, and reads them. If the buffer has too little room, it makes the call again with

@@ -16,13 +16,12 @@ from typing import Any, Hashable, Optional, Union
 
 from s2ix import frames
 from s2ix.frames import Names
-from s2ix.given import Text, bytes_of
+from s2ix.given import MOST_LABEL, Text, bytes_of
 from s2ix.index import Index
 from s2ix.refusals import NoCell, NoLabel, TooManyPairs
 
 # How many indexes a process keeps open, and how many points there are for one that the ranges are cut by.
 _KEPT, _SHARE = 4, 64
-_MOST_LABEL = 2_147_483_647
 
 _lock = threading.Lock()
 _opened: OrderedDict[str, Index] = OrderedDict()
@@ -74,8 +73,7 @@ def _joined(
 
 
 def _index_of(source: Union[bytes, str], key: str) -> Index:
-    """The index of a dump with a key, which this process opens if it hasn't. (one that is no longer kept may still be asked elsewhere, so
-    it is not closed)"""
+    """The index of a dump with a key, which this process opens if it hasn't."""
     with _lock:
         if key not in _opened:
             text = _read(source) if isinstance(source, str) else source
@@ -83,6 +81,7 @@ def _index_of(source: Union[bytes, str], key: str) -> Index:
                 raise ValueError(f"{source!r} has changed since the join was made")
             _opened[key] = Index.load(text)
         _opened.move_to_end(key)
+        # (one that is no longer kept may still be asked elsewhere, so it is not closed)
         while len(_opened) > _KEPT:
             _opened.popitem(last=False)
         return _opened[key]
@@ -93,7 +92,7 @@ def join_parts(
     names: Optional[Names] = None, threads: int = 1, cell: Hashable = "cell", pairs: int = 1_000_000,
 ) -> Any:
     """As `join`, with zones that may be too many for one index: a DataFrame of pandas with a column of cells, numbers or tokens, and one of
-    labels, which has the name that the labels get in the answer. Equal pairs count once.
+    labels, integers of any size, which has the name that the labels get in the answer. Equal pairs count once.
 
     The call reads a sample of the points at once, and cuts the leaves at its quantiles into `parts` ranges. It cuts a range further if more
     than `pairs` pairs meet it. Each range has an index of its own, with the zones that have a leaf of it, in some process. The leaves of
@@ -130,14 +129,17 @@ def join_parts(
 def _rows_of(zones: Any, cell: Hashable, label: Hashable) -> Any:
     """The pairs of zones as packed rows, each once."""
     numpy, pandas = importlib.import_module("numpy"), importlib.import_module("pandas")
-    places, labels = numpy.arange(len(zones)), zones[label].to_numpy()
+    places, of_cells, of_labels = numpy.arange(len(zones)), frames.column_of(zones, cell), frames.column_of(zones, label)
+    # (a nullable column gives objects, if not asked)
+    dtype = getattr(of_labels.dtype, "numpy_dtype", None)
+    labels = of_labels.to_numpy() if dtype is None else of_labels.to_numpy(dtype, na_value=0)
     if labels.dtype.kind not in "iu" and len(labels):
-        raise TypeError(f"a label is an integer, not of {labels.dtype}")
-    frames.expect_all(zones[cell].notna().to_numpy(), zones[cell], places, NoCell, "cell")
-    cells = frames.numbers_of(zones[cell], places, "cell") if len(zones) else numpy.empty(0, numpy.uint64)
+        raise TypeError(f"the column {label!r} is of {of_labels.dtype}: a label is an integer")
+    frames.expect_all(of_cells.notna().to_numpy(), of_cells, places, NoCell, "cell")
+    cells = frames.numbers_of(of_cells, places, "cell") if len(zones) else numpy.empty(0, numpy.uint64)
     are_cells = (_lows(cells) & numpy.uint64(0x1555_5555_5555_5555) != 0) & (cells < numpy.uint64(6 << 61))
-    frames.expect_all(are_cells, zones[cell], places, NoCell, "cell")
-    frames.expect_all((labels >= 0) & (labels <= _MOST_LABEL), zones[label], places, NoLabel, "label")
+    frames.expect_all(are_cells, of_cells, places, NoCell, "cell")
+    frames.expect_all(of_labels.notna().to_numpy() & (labels >= 0) & (labels <= MOST_LABEL), of_labels, places, NoLabel, "label")
     pairs = pandas.DataFrame({"cell": cells, "label": labels}).drop_duplicates()
     rows = numpy.ones(len(pairs), [("cell", "<u8"), ("label", "<u4"), ("count", "<u4")])
     rows["cell"], rows["label"] = pairs["cell"], pairs["label"]

@@ -43,8 +43,9 @@ class Edits(Calls):
     def add_all(self, rows: Rows) -> int:
         """Adds rows, each a cell, a label and copies, as one change: in any order, and repeated or not; returns how many pairs changed. All
         are added, or none. Each row keeps its cell: only `add_union` normalises. O(m log m) for m rows, besides the time of an edit.
-        `meet_view` says how rows in a memoryview are packed. Raises NoCell or NoLabel, with the wrong value of the first wrong row and its
-        place, counted from 0; and what each edit may.
+        An array of NumPy, as the `to_records()` of a frame of pandas, has fields of integers named cell, label and count in any order, and
+        maybe others; `meet_view` says how rows in other memory are packed. TypeError for memory of all else. Raises NoCell or NoLabel, with
+        the wrong value of the first wrong row and its place, counted from 0; and what each edit may.
 
         >>> from s2ix import Index
         >>> index = Index()
@@ -75,9 +76,9 @@ class Edits(Calls):
 
     def remove_all(self, rows: Rows) -> int:
         """Takes rows away, each a cell, a label and copies, as one change: in any order, and repeated ones add up; returns how many pairs
-        changed. All are taken, or none. O(m log m) for m rows, besides the time of an edit, and O(log m) times that for NotHeld. Raises
-        NoCell or NoLabel, with the wrong value of the first wrong row and its place, counted from 0; NotHeld, with the copies and the place
-        of the first row that takes more than the rows before it leave; and what each edit may.
+        changed. All are taken, or none. They come as those of `add_all`. O(m log m) for m rows, besides the time of an edit, and O(log m)
+        times that for NotHeld. Raises NoCell or NoLabel, with the wrong value of the first wrong row and its place, counted from 0;
+        NotHeld, with the copies and the place of the first row that takes more than the rows before it leave; and what each edit may.
 
         >>> from s2ix import Index
         >>> index = Index()

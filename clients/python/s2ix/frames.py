@@ -27,10 +27,11 @@ def join(
 
     Leaves are 64-bit integers with or without sign, nullable ones of pandas, categories of these, or Python's ints and tokens in a column
     of objects. A missing leaf is in no zone; if all are missing, the column may have any dtype. Floats are a TypeError, since they don't
-    hold 64 bits: pandas makes floats of integers if some are missing, unless it reads them as "UInt64".
+    hold 64 bits: pandas makes floats of integers if some are missing, unless it reads them as "UInt64". So are all other values, as True.
 
-    Raises KeyError if there is no column `leaf`, ValueError if there is a column `label`, NoCell with the row of the first number that is
-    no leaf's, and what `Index.labels_at_each` does, whose `threads` these are. ::
+    Raises KeyError if there is no column `leaf`, ValueError if it is there twice or there is a column `label`, TypeError if `leaf` names
+    several columns, under a MultiIndex, NoCell with the row of the first number that is no leaf's, and what `Index.labels_at_each` does,
+    whose `threads` these are. ::
 
         points = pandas.DataFrame({"parcel": [1, 2], "leaf": [0x0400000000000001, 0x0C00000000000001]})
         frames.join(points, zones, names={3: "Alfama", 9: "Baixa"})
@@ -55,8 +56,17 @@ def expect_columns(points: Any, leaf: Hashable, label: Hashable, how: str) -> No
         raise KeyError(leaf)
     if label in points.columns:
         raise ValueError(f"cannot insert {label}, already exists")
-    if list(points.columns).count(leaf) > 1:
-        raise ValueError(f"the column {leaf!r} is not unique")
+    column_of(points, leaf)
+
+
+def column_of(frame: Any, name: Hashable) -> Any:
+    """The one column that has a name. Raises KeyError for none, ValueError if it is there twice, TypeError if it names several."""
+    if list(frame.columns).count(name) > 1:
+        raise ValueError(f"the column {name!r} is not unique")
+    column = frame[name]
+    if column.ndim != 1:
+        raise TypeError(f"the column {name!r} is {column.shape[1]} columns, under a MultiIndex: name one of them")
+    return column
 
 
 def leaves_of(column: Any) -> tuple[Any, Any]:
@@ -76,13 +86,16 @@ def numbers_of(column: Any, places: Any, kind: str) -> Any:
     if hasattr(dtype, "categories"):
         column, dtype = column.astype(dtype.categories.dtype), dtype.categories.dtype
     if dtype.kind == "O":
+        wrong = {each for each in set(map(type, column)) if not issubclass(each, (int, str, numpy.integer)) or issubclass(each, bool)}
+        if wrong:
+            raise TypeError(f"the column {column.name!r} has a {min(each.__name__ for each in wrong)}: a {kind} is an integer or a token")
         try:
             return numpy.asarray(cells_copied(list(column)))
         except NoCell as refusal:
             raise _in_row(NoCell, refusal.value, places[refusal.place], kind) from None
     # (a sparse column has no size of its items)
     if dtype.kind not in "iu" or getattr(dtype, "itemsize", None) != 8:
-        raise TypeError(f"a {kind} is a 64-bit integer, not of {dtype}")
+        raise TypeError(f"the column {column.name!r} is of {dtype}: a {kind} is a 64-bit integer")
     return column.to_numpy(dtype=f"{dtype.kind}8").view(numpy.uint64)
 
 

@@ -3,7 +3,9 @@ from __future__ import annotations
 
 import ctypes
 import operator
+import re
 import struct
+import sys
 from array import array
 from functools import partial
 from itertools import chain, starmap
@@ -20,7 +22,8 @@ Cells = Union[Cell, Iterable[Cell], memoryview, "array[int]"]
 Targets = Union[Iterable[Cells], memoryview, "array[int]"]
 #: From one of these places up to the next the cells of each target lie, if those of all targets lie in one row.
 Bounds = Union[Iterable[int], memoryview, "array[int]"]
-#: Rows to add or to remove, each a cell, a label and copies. A writable memoryview of packed rows is passed on as it lies.
+#: Rows to add or to remove, each a cell, a label and copies. A writable memoryview of packed rows is passed on as it lies. An array of NumPy
+#: may have the fields cell, label and count in any order, and others.
 Rows = Union[Iterable["tuple[Cell, int, int]"], memoryview]
 #: The entries of a change, each a cell, a label and the counts before and after: by rising cell, then label.
 Entries = Iterable["tuple[Cell, int, int, int]"]
@@ -30,6 +33,9 @@ MOST_LABEL = 2_147_483_647
 _WORD = 8
 _row, _entry = struct.Struct("=QII"), struct.Struct("=QIII4x")
 _TEXTS = (str, bytes, bytearray, memoryview)
+# What the fields of a row are called, what NumPy calls fields without names, and the signs of this machine's order of bytes in a format.
+_FIELDS, _NAMELESS, _NATIVE = ("cell", "label", "count"), ("f0", "f1", "f2"), "@=^" + ("<" if sys.byteorder == "little" else ">")
+_FORMAT = re.compile(r"(?:T\{)?" + 3 * rf"([{_NATIVE}]?)([a-zA-Z])(?::(\w+):)?" + r"\}?")
 # Where no cells lie. It is never written to.
 NO_WORD = ctypes.c_uint64()
 
@@ -93,10 +99,11 @@ def expect_plain(given: Any, kind: str) -> None:
 
 
 def _view_of(given: Any) -> Optional[memoryview]:
-    """The memory of an object, if it has some. In Python 3.9 the items of an empty array of ctypes have 0 bytes."""
+    """The memory of an object, if it has some that Python can show: that of some arrays of NumPy it can't. In Python 3.9 the items of an
+    empty array of ctypes have 0 bytes."""
     try:
         return memoryview(given)
-    except TypeError:
+    except (TypeError, ValueError):
         return None
 
 
@@ -128,27 +135,58 @@ def wrong_cell(*lists: tuple[int, int]) -> S2ixError:
 
 def rows_in(rows: Rows, too_many: type[S2ixError] = TooManyCopies) -> tuple[int, int, object]:
     """Where packed rows lie, how many there are, and what keeps them there. Too many copies have a refusal of the call's own."""
+    expect_plain(rows, "rows")
     view = _view_of(rows)
-    if view is None:
-        packed_alone = partial(_packed_row, too_many)
-        words = array("Q", _packed(rows, _row, packed_alone, "row", 3, "rows are each a cell, a label and copies"))
-    else:
-        if view.itemsize not in (2 * _WORD, 0) or view.ndim != 1:
-            raise TypeError(f"packed rows are of 16 bytes in one row, not memory of {view.format!r}")
+    if view is not None and _has_packed_rows(view):
         if not view.readonly and view.c_contiguous and len(view):
             first = ctypes.c_char.from_buffer(view)
             if ctypes.addressof(first) % _WORD == 0:
                 return ctypes.addressof(first), len(view), first
         words = array("Q", view.tobytes())
+    else:
+        items: Any = _rows_by_name(rows) if getattr(getattr(rows, "dtype", None), "names", None) else rows
+        if items is rows and view is not None:
+            raise TypeError(f"rows in memory have each a cell of 8 bytes, a label of 4 and a count of 4, in one row, not {view.format!r}")
+        packed_alone = partial(_packed_row, too_many)
+        words = array("Q", _packed(items, _row, packed_alone, "row", 3, "rows are each a cell, a label and copies"))
     start, many = words.buffer_info()
     return (start, many // 2, words) if many else (ctypes.addressof(NO_WORD), 0, words)
+
+
+def _has_packed_rows(view: memoryview) -> bool:
+    """Whether memory lies as the library reads rows: by its format each item has a cell, a label and a count, so named or without names."""
+    fields = _FORMAT.fullmatch(view.format)
+    if fields is None or view.ndim != 1 or view.itemsize not in (2 * _WORD, 0):
+        return False
+    orders, codes, names = (fields.groups()[first::3] for first in range(3))
+    order, sizes = "@", []
+    for own, code in zip(orders, codes):
+        # (a field without an order has that of the field before it; struct has another sign for the sizes of C)
+        order = own or order
+        sizes.append(struct.calcsize(code if order in "@^" else order + code) if code in "QqLlNnI" else 0)
+    # (a cell has all 64 bits, so a sign changes nothing)
+    return sizes == [8, 4, 4] and codes[1] in "IL" and codes[2] in "IL" and names in (_FIELDS, _NAMELESS, (None,) * 3)
+
+
+def _rows_by_name(rows: Any) -> Iterable[tuple[Cell, int, int]]:
+    """The rows of an array of NumPy that has their fields in any order, and maybe others."""
+    dtype = rows.dtype
+    if rows.ndim != 1:
+        raise TypeError(f"rows lie in one row, not in an array of {rows.ndim} dimensions")
+    if not set(_FIELDS) <= set(dtype.names):
+        raise TypeError(f"rows have the fields cell, label and count, not {', '.join(dtype.names)}")
+    for name in _FIELDS:
+        if dtype[name].kind not in "iuO" or name == "cell" and dtype[name].itemsize != _WORD:
+            raise TypeError(f"the field {name} of rows has integers{' of 64 bits' if name == 'cell' else ''}, not {dtype[name]}")
+    cells, *others = (rows[name] for name in _FIELDS)
+    return zip((cells.astype("u8") if dtype["cell"].kind == "i" else cells).tolist(), *(each.tolist() for each in others))
 
 
 def _packed(items: Any, layout: struct.Struct, packed_alone: Callable[..., bytes], kind: str, size: int, words: str) -> bytes:
     """Items of so many numbers in a layout; if some don't fit, each by itself."""
     kept = list(items)
     # (a text has items too: three bytes would be a row)
-    if isinstance(items, str) or any(issubclass(kind, _TEXTS) for kind in set(map(type, kept))):
+    if isinstance(items, str) or any(issubclass(each, _TEXTS) for each in set(map(type, kept))):
         raise TypeError(f"{words}, not a text")
     try:
         return b"".join(starmap(layout.pack, kept))

@@ -2,7 +2,6 @@
 from __future__ import annotations
 
 import ctypes
-from contextlib import contextmanager
 from ctypes import addressof
 from typing import Any, Callable, Iterator, Optional, TypeVar
 
@@ -11,6 +10,7 @@ from s2ix.edits import Edits
 from s2ix.given import (
     MOST_U32, MOST_U64, Bounds, Cells, Targets, Text, bytes_of, cells_copied, cells_in, check, check_natural, number_of, wrong_cell,
 )
+from s2ix.groups import Group, OpenGroup
 from s2ix.refusals import NoCell, NoLabel, NoLimits, NoRange, NoSuchChange, NothingToUndo, TooFewChanges, expect, expect_at
 from s2ix.rows import (
     ENTRY, HALF, HELD, PACKED, WORD, Entry, HeldLabel, Range, Row, entries_of, held_of, labels_of, new_row, numbers_of, row_in, rows_of,
@@ -164,27 +164,31 @@ class Index(Edits):
         raise TypeError("an Index can't be pickled: its dump can")
 
     def __repr__(self) -> str:
+        return f"<s2ix.{type(self).__name__}, {'open' if self._is_open() else 'closed'}>"
+
+    def _is_open(self) -> bool:
         number = ctypes.c_size_t()
-        is_closed = self._calls.s2ix_len(self._at_handle, addressof(number))
-        return f"<s2ix.{type(self).__name__}, {'closed' if is_closed else 'open'}>"
+        return not self._calls.s2ix_len(self._at_handle, addressof(number))
 
     def close(self) -> None:
         """Frees all that is held. Each later call raises Closed, but a second `close` does nothing. It waits for a call that runs on
         another thread, but not for `at_each` and its like."""
-        # (not by the finalizer: if two threads call it, it returns to the second before the first has closed)
         self._calls.s2ix_close(self._at_handle)
-        self._close.detach()
 
     # Steps.
 
-    @contextmanager
-    def group(self) -> Iterator[None]:
+    def group(self) -> Group:
         """Makes one change of all that is done in a `with`, or none if the counts are then what they were. If the `with` ends with an
         exception, or the changes can't become one, all that was done in it is undone; then it could be redone. In it `undo` takes back no
         earlier change, and what would drop changes raises RuntimeError: `forget`, `forget_older`, `clear`, and a `line` with the word undo
-        or forget. Groups may lie within groups. What other threads do meanwhile is in the group too. Until its end each edit in it counts
-        as a change, so a full journal may refuse it. It costs what `join` does. Raises Closed; and OutOfMemory: if memory is wanted to undo,
-        the first edits of the group may be left.
+        or forget. What other threads and tasks do meanwhile is in the group too. Until its end each edit in it counts as a change, so a
+        full journal may refuse it. It costs what `join` does. Raises Closed; and OutOfMemory: if memory is wanted to undo, the first edits
+        of the group may be left.
+
+        Groups may lie within groups. The end of one ends those that began in it and are still open, as that of a generator or of another
+        task may be: what they did is in its change, or is undone with it, and their own ends then do nothing. A group that ends on another
+        thread than it began on, or in another task of asyncio, as that of a generator which is freed there, is undone, and raises
+        RuntimeError if nothing else is raised. So is one that an interrupt keeps from its end.
 
         >>> index = Index()
         >>> with index.group():
@@ -193,17 +197,64 @@ class Index(Edits):
         >>> index.done_count(), index.undo(), len(index)
         (1, 2, 0)
         """
-        around, first = self._group, self.done_count()
+        return Group(self)
+
+    def _begin_group(self, group: OpenGroup) -> None:
+        group.first = self.done_count()
+        self._groups.append(group)
+
+    def _end_group(self, group: OpenGroup, is_kept: bool) -> bool:
+        """Ends a group and those that began in it, as one change or none; returns whether it had not ended before."""
+        within = self._within(group)
+        if within is None:
+            return False
+        self._close_groups(within)
         try:
-            self._group = first
-            yield
-            self.join(self.done_count() - first)
+            if is_kept:
+                self._join_from(group.first)
+            else:
+                self._take_back(group.first)
         except BaseException:
-            while self.done_count() > first:
-                self.undo()
+            self._take_back(group.first)
             raise
         finally:
-            self._group = around
+            # (if this is interrupted, the group is dropped)
+            self._close_groups([group])
+        return True
+
+    def _end_dropped(self, _: object = None) -> None:
+        """Takes back a group that nothing will end."""
+        group = self._dropped_group()
+        if group is not None:
+            self._end_group(group, False)
+
+    def _dropped_group(self) -> Optional[OpenGroup]:
+        return next((group for group in self._groups if group.is_dropped()), None)
+
+    def _within(self, group: OpenGroup) -> Optional[list[OpenGroup]]:
+        """The groups that began in one, or None if that has ended."""
+        groups = self._groups[:]
+        return groups[groups.index(group) + 1 :] if group in groups else None
+
+    def _close_groups(self, groups: list[OpenGroup]) -> None:
+        """Notes that groups have ended."""
+        for group in groups:
+            group.end()
+        self._groups[:] = [each for each in self._groups if each not in groups]
+
+    def _join_from(self, first: int) -> None:
+        """Makes one change of all but so many of the first."""
+        # (another thread may edit or undo between)
+        while (many := self.done_count() - first) > 1:
+            try:
+                self._edited(self._number_of, self._calls.s2ix_join, many)
+            except TooFewChanges:
+                continue
+
+    def _take_back(self, first: int) -> None:
+        """Undoes all but so many of the first changes."""
+        while self.done_count() > first:
+            self._edited(self._number_of, self._calls.s2ix_undo)
 
     def join(self, last: int) -> int:
         """Makes one change of the last ones that can be undone, so many of them; returns how many pairs it has. If their counts are what
@@ -215,7 +266,7 @@ class Index(Edits):
         (1, 1, 2, 1, 2)
         """
         last = check(last, MOST_U64, TooFewChanges)
-        if self._group is not None and last > self.done_count() - self._group:
+        if self._groups and last > self.done_count() - self._groups[-1].first:
             raise TooFewChanges
         return self._edited(self._number_of, self._calls.s2ix_join, last)
 
@@ -226,7 +277,7 @@ class Index(Edits):
         >>> index.add("04", 9), index.undo(), len(index), index.redo(), len(index)
         (1, 1, 0, 1, 1)
         """
-        if self._group is not None and self.done_count() <= self._group:
+        if self._groups and self.done_count() <= self._groups[-1].first:
             raise NothingToUndo
         return self._edited(self._number_of, self._calls.s2ix_undo)
 
@@ -259,7 +310,7 @@ class Index(Edits):
 
     def _expect_no_group(self) -> None:
         """Raises RuntimeError in a group."""
-        if self._group is not None:
+        if self._groups:
             raise RuntimeError("an index drops no changes in a group")
 
     # Queries.
@@ -349,7 +400,8 @@ class Index(Edits):
         return self._of_cells(self._calls.s2ix_meet, PACKED, rows_of, cells)
 
     def meet_view(self, cells: Cells) -> memoryview:
-        """What `meet` returns, packed: each item is a cell of 8 bytes, a label of 4 and a count of 4. `add_all` takes it for rows.
+        """What `meet` returns, packed: each item is a cell of 8 bytes, a label of 4 and a count of 4. `add_all` takes it for rows, and
+        other memory whose format says the same.
 
         A loop of Python can't read items of more than one number. `struct.iter_unpack("=QII", view)` gives each as a tuple, and
         `numpy.asarray(view)` is an array of the dtype `[("cell", "<u8"), ("label", "<u4"), ("count", "<u4")]`; neither copies.

@@ -27,6 +27,15 @@ class S2ixError(Exception):
     def __init__(self, *words: object) -> None:
         super().__init__(*(words or (type(self).__doc__,)))
 
+    def __reduce__(self) -> Any:
+        # (a class makes its words from what it is given, so from its words it would make others)
+        return _again, (type(self), *self.args), self.__dict__
+
+
+def _again(kind: type[S2ixError], *words: object) -> S2ixError:
+    """A refusal of a class, with words that it had."""
+    return kind.__new__(kind, *words)
+
 
 class NoDump(S2ixError):
     """the text is no dump"""
@@ -36,9 +45,6 @@ class NoDump(S2ixError):
     def __init__(self, line: int = 0) -> None:
         super().__init__(f"{self.__doc__}: line {line} is the first with a fault")
         self.line = line
-
-    def __reduce__(self) -> Any:
-        return type(self), (self.line,), self.__dict__
 
 
 class NoJournal(S2ixError):
@@ -50,9 +56,6 @@ class NoJournal(S2ixError):
         super().__init__(f"{self.__doc__}: line {line} is the first with a fault")
         self.line = line
 
-    def __reduce__(self) -> Any:
-        return type(self), (self.line,), self.__dict__
-
 
 class Mismatch(S2ixError):
     """a change has another count than is held"""
@@ -63,9 +66,6 @@ class Mismatch(S2ixError):
         # (an entry that was passed in a list has a place there)
         super().__init__(f"{self.__doc__}: entry {entry} of change {change}" if place is None else f"entry {place}: another count is held")
         self.change, self.entry, self.place = change, entry, place
-
-    def __reduce__(self) -> Any:
-        return type(self), (self.change, self.entry, self.place), self.__dict__
 
 
 #: The class of each status.

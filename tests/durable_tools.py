@@ -1,0 +1,79 @@
+"""What the tests of s2ix.Durable share: a count of answers, what an index shows, and processes that are killed."""
+import contextlib
+import os
+import signal
+import sys
+import traceback
+
+TOP = os.path.dirname(os.path.dirname(os.path.realpath(__file__)))
+sys.path[:0] = [f"{TOP}/clients/python"]
+from s2ix import Durable  # noqa: E402
+
+FIRST, SECOND, FACE = 0x0400000000000000, 0x0C00000000000000, 0x1000000000000000
+
+
+class Count:
+    """How many answers were right, and how many not."""
+
+    def __init__(self):
+        self.passed = self.failed = 0
+
+    def expect(self, name, found, wanted):
+        self.passed += found == wanted
+        self.failed += found != wanted
+        if found != wanted:
+            print(f"{name}: {found!r} in place of {wanted!r}"[:600])
+
+
+def told(call, *given, **named):
+    """What a call answers, or the name of what it raises."""
+    try:
+        return call(*given, **named)
+    except Exception as raised:  # noqa: BLE001
+        return type(raised).__name__
+
+
+def shown(index):
+    """All that an index shows: its pairs, its changes and how many can be redone."""
+    return index.dump(), index.journal(), index.undone_count()
+
+
+def in_file(path):
+    """What a file shows to who reads it alone."""
+    with Durable(path, read_only=True) as index:
+        return shown(index)
+
+
+@contextlib.contextmanager
+def child(work):
+    """A process that does some work, which gets a file to write to; and the end of a pipe to read that."""
+    end, start = os.pipe()
+    pid = os.fork()
+    if not pid:
+        status = 1
+        try:
+            os.close(end)
+            work(start)
+            status = 0
+        except BaseException:  # noqa: BLE001
+            traceback.print_exc()
+        finally:
+            os._exit(status)
+    os.close(start)
+    try:
+        yield pid, end
+    finally:
+        with contextlib.suppress(ProcessLookupError):
+            os.kill(pid, signal.SIGKILL)
+        os.waitpid(pid, 0)
+        os.close(end)
+
+
+def rest_of(end):
+    """All that comes from a pipe."""
+    pieces = []
+    while True:
+        piece = os.read(end, 65536)
+        if not piece:
+            return b"".join(pieces)
+        pieces.append(piece)
