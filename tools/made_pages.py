@@ -605,15 +605,6 @@ PAGES = {
 }
 
 
-def by_hand(path):
-    """What of a page is written by hand: not what is made below a line, between two marks, or in a column; nor the bench's page."""
-    page = re.split(r"\*All below this line is made by|`bench/run --page` wrote this page", sources.read(path))[0]
-    page = re.sub(r"<!-- [^>]*: made by tools/make_pages -->.*?<!-- end -->", "", page, flags=re.S)
-    if path == "docs/PROMISES.md":
-        page = re.sub(r"(?m)^(\| .*\|)[^|]*\|$", r"\1", page)
-    return page
-
-
 def stale():
     """The pages that are not as this makes them, with what it makes of each."""
     for path, made in PAGES.items():

@@ -114,6 +114,12 @@ static void resumed(void) {
     EXPECT(s2ix_undo(&handle, &number), S2IX_NOTHING_TO_UNDO);
     EXPECT(s2ix_count(&handle, first, 9, &count), S2IX_DONE);
     EXPECT(count, 2);
+    /* (a journal that is full again) */
+    EXPECT(s2ix_redo(&handle, &number), S2IX_DONE);
+    EXPECT(s2ix_redo(&handle, &number), S2IX_DONE);
+    EXPECT(s2ix_add(&handle, first, 9, 1, &number), S2IX_JOURNAL_FULL);
+    EXPECT(s2ix_undo(&handle, &number), S2IX_DONE);
+    EXPECT(s2ix_undo(&handle, &number), S2IX_DONE);
     EXPECT(s2ix_resume(&handle, TEXT("s2ix 2\n"), TEXT(""), 10, 10, 10, &place, &entry), S2IX_NO_DUMP);
     EXPECT(place == 2 && entry == 0, true);
     EXPECT(s2ix_resume(&handle, TEXT(DUMP), TEXT(DUMP), 10, 10, 10, &place, &entry), S2IX_NO_JOURNAL);
@@ -131,6 +137,36 @@ static void resumed(void) {
     s2ix_close(&handle);
 #undef DUMP
 #undef JOURNAL
+}
+
+/* Changes that would make more pairs than the limit, as the first that is made and as a later one. */
+static void too_many_pairs(void) {
+#define DUMP "s2ix 2\n04 9 3\n1 3 1\nend 2 4\n"
+#define GONE "s2ix-journal 2\nchange 1\n0c 7 1 0\nend 1\n"
+#define GONE_BEFORE "s2ix-journal 2\nchange 1\n0c 7 1 0\nchange 1\n04 9 2 3\nend 2\n"
+#define ADDED "s2ix-journal 2\nchange 1\n0c 7 0 1\nend 1\n"
+#define ADDED_AFTER "s2ix-journal 2\nchange 1\n04 9 3 2\nchange 1\n0c 7 0 1\nend 2\n"
+    s2ix_handle handle = {0};
+    size_t place = 7, entry = 7;
+    EXPECT(s2ix_rewind(&handle, TEXT(DUMP), TEXT(GONE), 2, 10, 10, &place, &entry), S2IX_TOO_MANY_PAIRS);
+    EXPECT(place == 1 && entry == 0, true);
+    EXPECT(s2ix_rewind(&handle, TEXT(DUMP), TEXT(GONE_BEFORE), 2, 10, 10, &place, &entry), S2IX_TOO_MANY_PAIRS);
+    EXPECT(place == 1 && entry == 0, true);
+    EXPECT(s2ix_resume(&handle, TEXT(DUMP), TEXT(GONE_BEFORE), 2, 10, 10, &place, &entry), S2IX_TOO_MANY_PAIRS);
+    EXPECT(place == 1 && entry == 0, true);
+    EXPECT(s2ix_replay(&handle, TEXT(DUMP), TEXT(ADDED), 2, 10, 10, &place, &entry), S2IX_TOO_MANY_PAIRS);
+    EXPECT(place == 1 && entry == 0, true);
+    EXPECT(s2ix_replay(&handle, TEXT(DUMP), TEXT(ADDED_AFTER), 2, 10, 10, &place, &entry), S2IX_TOO_MANY_PAIRS);
+    EXPECT(place == 2 && entry == 0, true);
+    EXPECT(handle.is_open, false);
+    EXPECT(s2ix_rewind(&handle, TEXT(DUMP), TEXT(GONE_BEFORE), 3, 10, 10, &place, &entry), S2IX_DONE);
+    EXPECT(place + entry, 0);
+    s2ix_close(&handle);
+#undef DUMP
+#undef GONE
+#undef GONE_BEFORE
+#undef ADDED
+#undef ADDED_AFTER
 }
 
 static void applied(void) {
@@ -252,6 +288,7 @@ int history_faults(void) {
     changed();
     replayed();
     resumed();
+    too_many_pairs();
     applied();
     joined();
     journalled();
