@@ -52,7 +52,7 @@ function show(changed) {
   select.querySelector("[data-own]")?.remove();
   if (/^(part|cell)/.test(look)) select.prepend(html("option", { value: look, "data-own": "" }, nameOf(look)));
   select.value = look;
-  byId("fault").textContent = "";
+  byId("fault").textContent = absence(look);
   if (changed && look === drawn && look !== "change") drawChange(changed); else drawPicture();
   drawn = look;
   clearTimeout(keeping);

@@ -83,6 +83,13 @@ function moveTo(wanted) {
   return changed;
 }
 
+// What to say of a look at a label that has no pair after the step that is shown; nothing of another look.
+function absence(words) {
+  const [kind, field] = words.split(" "), label = Number(field);
+  const isHeld = kind !== "label" || [...cellsOf.get(label) ?? []].some((at) => held[at].has(label));
+  return isHeld ? "" : `${named(label)} isn't held ${step > 0 ? `after change ${step}` : "before the first change"}.`;
+}
+
 // A square part of a face around a middle.
 function part(face, i, j, wanted) {
   const side = Math.min(Math.max(wanted, 1), FACE), from = (middle) => Math.min(Math.max(middle - side / 2, 0), FACE - side);

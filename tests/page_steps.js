@@ -86,7 +86,8 @@ function opened(page) {
   byId("squares").getContext = () => byId("squares").sheet ??= new Sheet(byId("squares").width / FINE, byId("squares").height / FINE);
   const document = { getElementById: byId, createElementNS: () => new Element(), documentElement: null };
   const outside = { document, devicePixelRatio: FINE, getComputedStyle: () => ({ getPropertyValue: () => "#ffffff" }), pick() {}, console };
-  const calls = "({ cells, last, hold, moveTo, drawPicture, drawChange, placeOf, lookAt(words) { look = words; }, framesNow() { return frames; } })";
+  const own = "lookAt(words) { look = words; }, framesNow() { return frames; }";
+  const calls = `({ cells, data, last, hold, moveTo, absence, drawPicture, drawChange, placeOf, ${own} })`;
   const script = SCRIPTS.map((name) => fs.readFileSync(path.join(EXAMPLES, name), "utf8")).join("");
   return { byId, ...vm.runInNewContext(`${script}\n${calls}`, outside) };
 }
@@ -109,8 +110,15 @@ function numbersOverlap(page) {
   return boxes.some((box, at) => boxes.slice(0, at).some((other) => areOver(box, other)));
 }
 
-// What is wrong with a step to a change.
-function faultsOf(page, step) {
+// Whether a label has a pair after a step, by the page's data alone.
+function isHeld({ data }, label, step) {
+  const counts = new Map(data.pairs.filter(([, of]) => of === label).map(([at, , count]) => [at, count]));
+  for (const [at, of, before] of data.changes.slice(step).reverse().flat()) if (of === label) counts.set(at, before);
+  return [...counts.values()].some((count) => count > 0);
+}
+
+// What is wrong with a step to a change, under a look.
+function faultsOf(page, look, step) {
   const sheet = page.byId("squares").sheet, before = new Set(textsIn(page, "numbers"));
   sheet.filled.fill(0);
   const marks = page.byId("marks"), kept = marks.inside;
@@ -137,6 +145,8 @@ function faultsOf(page, step) {
   if (whole.points.some((colour, at) => colour !== sheet.points[at])) faults.push("the squares are others than those that are drawn at once");
   if (textsIn(page, "numbers").join() !== numbers.join()) faults.push("the numbers are others than those that are drawn at once");
   if (linesOf(page).join() !== lines.join()) faults.push("the legend is another than that which is written at once");
+  const isAbsent = look.startsWith("label ") && !isHeld(page, Number(look.slice(6)), step);
+  if ((page.absence(look) !== "") !== isAbsent) faults.push(`it says '${page.absence(look)}' of a label that is ${isAbsent ? "not " : ""}held`);
   return faults;
 }
 
@@ -147,6 +157,6 @@ for (const look of looks) {
   drawnAtOnce(page);
   const steps = [...Array(page.last).keys()].reverse().slice(0, MOST_STEPS);
   for (const step of [...steps, page.last, 0]) {
-    for (const fault of faultsOf(page, step)) console.log(`${path.basename(file)}, ${look}, step ${step}: ${fault}`);
+    for (const fault of faultsOf(page, look, step)) console.log(`${path.basename(file)}, ${look}, step ${step}: ${fault}`);
   }
 }
