@@ -441,7 +441,7 @@ def contract_lines(crate):
             head = shown_name(item) + (f" ({clauses})" if clauses else "") + (f", for {by}" if by else "") + said
             told.setdefault(head, {}).update(dict.fromkeys(names))
     for head, names in told.items():
-        yield from wrapped(head + (f". Refused: {quoted(names)}" if names else ""), "- ", "  ")
+        yield from wrapped(head + (f". Rejected: {quoted(names)}" if names else ""), "- ", "  ")
 
 
 def rows_of(page):
