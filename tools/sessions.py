@@ -9,11 +9,11 @@ from plain_model import Model  # noqa: E402
 
 # README's session: each line, and what it says.
 FIRST = {
-    "addunion 9 04 0c": "Zone 9 covers the cells `04` and `0c`: two pairs have changed.",
-    "add 04 3": "Label 3 comes to `04` too.",
-    "meet 04": "Which pairs share ground with `04`? Two: each is printed as its cell, its label and its count.",
-    "revert 1": "Takes back change 1, the zone. The later change stays.",
-    "dump": "Prints all pairs that are held, as a text that can be read back.",
+    "addunion 9 04 0c": "Zone 9 is laid over the cells `04` and `0c`: two pairs have changed.",
+    "add 04 3": "`04` gets label 3 too.",
+    "meet 04": "Which pairs share a leaf with `04`? Two: each is printed as its cell, its label and its count.",
+    "revert 1": "Change 1, the zone, is taken back. The later change stays.",
+    "dump": "All pairs that are held, as a text that can be read back.",
 }
 # The scripts of an example, by its name: what comes before it, and its lines, each with a remark after ';'. A line of its own begins anew.
 SESSIONS = {
@@ -108,7 +108,7 @@ def typed():
 def line_by_line():
     """The lines of README's session, each with its answer and what it says."""
     model = Model()
-    yield from ["| Line | Answer | |", "|---|---|---|"]
+    yield from ["| Line | Answer | What it says |", "|---|---|---|"]
     for line, told in FIRST.items():
         answer = ", ".join(f"`{each}`" for each in model.answer(line.encode())[0])
         yield f"| `{line}` | {answer} | {told} |"
