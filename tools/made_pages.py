@@ -34,7 +34,7 @@ EXAMPLES = {
 }
 # How many wrong bodies a row of docs/PROMISES.md names; of more it has the number.
 MOST_NAMED = 8
-# What README tells of speed, and how the row of docs/PERFORMANCE.md begins that has the figures.
+# What README tells of speed, and how the row of docs/reference/PERFORMANCE.md begins that has the figures.
 SPEEDS = {
     "which pairs lie over a point": "point, chain_at,",
     "the same for a million points in one call": "unsorted, ns a point,",
@@ -536,19 +536,19 @@ def adding_page(page):
 
 
 def ratio_of(figure):
-    """The ratio of ours to S2's in a figure of docs/PERFORMANCE.md; one that is printed as 0.000 isn't 0."""
+    """The ratio of ours to S2's in a figure of docs/reference/PERFORMANCE.md; one that is printed as 0.000 isn't 0."""
     ratio = re.match(r"\**([\d.]+)", figure.strip())[1]
     return ratio if float(ratio) else f"below {ratio[:-1]}1"
 
 
 def speed_lines():
-    """Ratios of ours to S2's, from the rows of docs/PERFORMANCE.md that are named so."""
-    lines = sources.read("docs/PERFORMANCE.md").split("\n")
+    """Ratios of ours to S2's, from the rows of docs/reference/PERFORMANCE.md that are named so."""
+    lines = sources.read("docs/reference/PERFORMANCE.md").split("\n")
     yield from ["| | 1,000 pairs | 10,000 | 100,000 | 1,000,000 |", "|---|---|---|---|---|"]
     for told, begins in SPEEDS.items():
         rows = [line for line in lines if line.startswith(f"| {begins}")]
         if not rows:
-            raise LookupError(f"docs/PERFORMANCE.md has no row '{begins}', of which README tells: change SPEEDS in tools/made_pages.py")
+            raise LookupError(f"docs/reference/PERFORMANCE.md has no row '{begins}' for README: look at SPEEDS in tools/made_pages.py")
         yield f"| {told} | {' | '.join(map(ratio_of, rows[0].split('|')[2:-1]))} |"
 
 
