@@ -1,4 +1,4 @@
-"""What was measured, as tables in Markdown, and the page docs/PERFORMANCE.md."""
+"""What was measured, as tables in Markdown, and the page docs/reference/PERFORMANCE.md."""
 import importlib.metadata
 import os
 import platform
@@ -192,7 +192,7 @@ def joined(lines):
 
 
 def write(measured):
-    """Writes docs/PERFORMANCE.md."""
+    """Writes docs/reference/PERFORMANCE.md."""
     behind = joined(ahead(measured)) or "Nowhere in this run."
     counted = ""
     if measured.instructions:
@@ -204,7 +204,7 @@ def write(measured):
         ids=joined(ids_table(measured)), programs=joined(programs_table(measured)), files=joined(files_table(measured)),
         clusters=joined(clusters_table(measured)), python=platform.python_version(), numpy=numpy_version(), sqlite=sqlite3.sqlite_version,
         pandas=upstream("python3-pandas"), dask=upstream("python3-dask"), processors=os.cpu_count(), ahead=behind, counted=counted)
-    with open(f"{making.TOP}/docs/PERFORMANCE.md", "w", encoding="utf-8") as file:
+    with open(f"{making.TOP}/docs/reference/PERFORMANCE.md", "w", encoding="utf-8") as file:
         file.write(text)
 
 

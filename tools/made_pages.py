@@ -1,10 +1,10 @@
-"""What pages of docs/ repeat of the sources, made from them.
+"""What pages repeat of the sources, made from them.
 
-Of ADDING where the sources name its examples; of ARCHITECTURE the crates and the ways of two lines; of CALLS all after its introduction, from
-the public items of the eight doors and their rooms; of DEFINITIONS the index, from the comments above the definitions; of FORMATS the
-instructions, the examples and when each refusal comes; of FROM_S2 the names that docs give; of PROMISES the column of wrong bodies; of
-CONTRACTS all after its introduction, from the clauses, the laws and the wrong bodies. Each page is made of the page that is there, since a
-part of it is written by hand."""
+Of README its session, by the plain model, and its ratios, from PERFORMANCE; of ADDING where the sources name its examples; of ARCHITECTURE
+the crates; of CALLS all after its introduction, from the public items of the eight doors and their rooms; of DEFINITIONS the index, from
+the comments above the definitions; of FORMATS the instructions, the examples and when each refusal comes; of FROM_S2 the names that docs
+give; of PROMISES the column of wrong bodies; of CONTRACTS all after its introduction, from the clauses, the laws and the wrong bodies. Each
+page is made of the page that is there, since a part of it is written by hand."""
 import fnmatch
 import functools
 import os
@@ -24,30 +24,27 @@ QUIET_TRAITS = ("Drop", "Model")
 CALLS_MADE = "*All below this line is made by `tools/make_pages` from the sources of the doors and their rooms.*"
 INDEX_MADE = "*All below this line is made by `tools/make_pages` from the comments above the definitions in `crates/*/specs`.*"
 CONTRACTS_MADE = "*All below this line is made by `tools/make_pages` from the contracts, the docs of laws, and the wrong bodies of all crates.*"
-# The functions that two lines of a script come to, in their order: the crate, and the function with its type.
-WAY = {
-    "Both lines come in:": """s2ix/main s2ix_cli_words/command_of s2ix/run s2ix_cli/run s2ix_text_parts/FromRead::piece s2ix_cli/run_piece
-        s2ix_cli/run_line s2ix_cli_script/meaning s2ix_cli_words/Fields::next s2ix_cli_script/asked_by""",
-    "`relabel 9 3` changes the store:": """s2ix_cli_script/relabel_named s2ix_cli/run_instruction s2ix_edit/Store::edit s2ix_edit_plan/plan
-        s2ix_edit/apply_planned s2ix_bag_changes/Bag::applied s2ix_bag_lists/FaceLists::after s2ix_table/FacedTable::rebuild
-        s2ix_table/read_list s2ix_table_spans/SpanTable::after s2ix_table/Offset::after s2ix_cli/print_step
-        s2ix_cli_answers/write_ok s2ix_text_parts/put_together""",
-    "`meet 1c 04` reads it:": """s2ix_cli_script/union_named s2id_core/CellId::from_token s2id_union/CellUnion::normalise s2ix_cli/print_meeting
-        s2ix_cli_answers/write_meeting s2ix_table_walk/Meeting::advance s2ix_table_queries/Meter::node s2ix_table/FacedTable::read_near
-        s2ix_text_write/Block::write_line s2ix_text_write/Block::write_end s2ix_text_parts/put_all""",
-    "Both go out:": "s2ix_text_parts/ToWrite::put s2ix_text_parts/ToWrite::flush",
-}
 # The words by which the sources name the examples of docs/ADDING.md.
 EXAMPLES = {
     "an edit": r"\bGrow\b|\bgrow_named\b|grow_adds_a_copy_each|[\"']grow\b|\bgrow [A-Z0-9]",
     "a refusal": r"\bTooFine\b|\basks_too_fine\b",
     "a query": r"^(?:\w+ )*region_of :|\bfn region(?:_of)?\b|\bRegion\b(?! *[.])|[\"']region[ \"']|\bregion [A-Z0-9]|c\.region_of",
+    "a refused query": r"\bNotLeaf\b|\bnot_leaf_name\b|\bat_(step|stays|prints)\b|\brun_at\b",
     "a step": r"\b(Forget|after_forget)\b|[\"']forget\b|fn forget",
 }
-# How many words of its contract a function has on the way.
-MOST_CITED = 4
 # How many wrong bodies a row of docs/PROMISES.md names; of more it has the number.
 MOST_NAMED = 8
+# What README tells of speed, and how the row of docs/reference/PERFORMANCE.md begins that has the figures.
+SPEEDS = {
+    "which pairs lie over a point": "point, chain_at,",
+    "the same for a million points in one call": "unsorted, ns a point,",
+    "which pairs meet a region of 8 cells": "8 cells, visit,",
+    "which pairs meet a region of 500 cells": "500 cells, visit,",
+    "to build the index": "adds and build,",
+    "to load it from its text": "load of a dump,",
+    "one edit, and a query after it": "edit with a query,",
+    "bytes a pair": "bytes a pair",
+}
 
 
 def wrapped(text, first="", more=""):
@@ -444,7 +441,7 @@ def contract_lines(crate):
             head = shown_name(item) + (f" ({clauses})" if clauses else "") + (f", for {by}" if by else "") + said
             told.setdefault(head, {}).update(dict.fromkeys(names))
     for head, names in told.items():
-        yield from wrapped(head + (f". Refused: {quoted(names)}" if names else ""), "- ", "  ")
+        yield from wrapped(head + (f". Rejected: {quoted(names)}" if names else ""), "- ", "  ")
 
 
 def rows_of(page):
@@ -505,28 +502,6 @@ def product_lines():
     return crate_lines([*houses, *[crate for crate in product_crates() if crate not in houses]])
 
 
-def step_lines(crate, path):
-    """A function on the way of a line: its file, the first sentence of its doc, and the words in which its contract speaks."""
-    owner, _, name = path.rpartition("::")
-    found = [item for item in functions_of(crate) if item.kind == "fn" and item.name == name and owner == item.owner]
-    item = next(filter(is_offered, found), found[0])
-    kind = sources.item_named(crate, owner) if owner else None
-    said = first_sentence(item.doc or item.comment or (kind.doc if kind else crate_doc(crate)))
-    text = " ".join(text for word, _, text in item.clauses if word == "ensures")
-    words = [word for word in dict.fromkeys(re.findall(r"(?<![.\w])[A-Za-z_]\w*", text)) if sources.definition_of(item.path, word)]
-    cited = f" ({quoted(words[:MOST_CITED])})" if words else ""
-    return wrapped(f"`{item.path.removeprefix('crates/')}`, `{path}`: {said.rstrip('.')}{cited}", "- ", "  ")
-
-
-def way_lines():
-    """The ways of two lines, step by step."""
-    for title, steps in WAY.items():
-        yield from [title, ""]
-        for step in steps.split():
-            yield from step_lines(*step.split("/"))
-        yield ""
-
-
 def with_made(page, name, lines):
     """A page with what is made of one name in it."""
     begin, end = f"<!-- {name}: made by tools/make_pages -->", "<!-- end -->"
@@ -535,12 +510,10 @@ def with_made(page, name, lines):
 
 
 def map_page(page):
-    """docs/ARCHITECTURE.md: the crates, and the ways of two lines."""
+    """docs/ARCHITECTURE.md: the crates."""
     tests = [crate for crate in workspace.CRATES if crate not in product_crates()]
-    made = {"crates": product_lines(), "crates of tests": crate_lines(tests), "ways": way_lines()}
-    for name, lines in made.items():
-        page = with_made(page, name, lines)
-    return page
+    page = with_made(page, "crates", product_lines())
+    return with_made(page, "crates of tests", crate_lines(tests))
 
 
 # ---- docs/ADDING.md
@@ -556,6 +529,34 @@ def adding_page(page):
     """docs/ADDING.md: where the sources name each of its examples."""
     for name, word in EXAMPLES.items():
         page = with_made(page, name, place_lines(word))
+    return page
+
+
+# ---- README.md
+
+
+def ratio_of(figure):
+    """The ratio of ours to S2's in a figure of docs/reference/PERFORMANCE.md; one that is printed as 0.000 isn't 0."""
+    ratio = re.match(r"\**([\d.]+)", figure.strip())[1]
+    return ratio if float(ratio) else f"below {ratio[:-1]}1"
+
+
+def speed_lines():
+    """Ratios of ours to S2's, from the rows of docs/reference/PERFORMANCE.md that are named so."""
+    lines = sources.read("docs/reference/PERFORMANCE.md").split("\n")
+    yield from ["| | 1,000 pairs | 10,000 | 100,000 | 1,000,000 |", "|---|---|---|---|---|"]
+    for told, begins in SPEEDS.items():
+        rows = [line for line in lines if line.startswith(f"| {begins}")]
+        if not rows:
+            raise LookupError(f"docs/reference/PERFORMANCE.md has no row '{begins}' for README: look at SPEEDS in tools/made_pages.py")
+        yield f"| {told} | {' | '.join(map(ratio_of, rows[0].split('|')[2:-1]))} |"
+
+
+def readme_page(page):
+    """README.md: its session, and what it tells of speed."""
+    made = {"what is typed": sessions.typed(), "line by line": sessions.line_by_line(), "what is printed": sessions.printed(), "speed": speed_lines()}
+    for name, lines in made.items():
+        page = with_made(page, name, lines)
     return page
 
 
@@ -599,7 +600,7 @@ def formats_page(page):
 # ---- all of them
 
 PAGES = {
-    "docs/ADDING.md": adding_page, "docs/ARCHITECTURE.md": map_page, "docs/FORMATS.md": formats_page, "docs/FROM_S2.md": from_s2_page,
+    "README.md": readme_page, "docs/ADDING.md": adding_page, "docs/ARCHITECTURE.md": map_page, "docs/FORMATS.md": formats_page, "docs/FROM_S2.md": from_s2_page,
     "docs/PROMISES.md": promises_page, "docs/reference/CALLS.md": calls_page, "docs/reference/CONTRACTS.md": contracts_page,
     "docs/reference/DEFINITIONS.md": definitions_page,
 }

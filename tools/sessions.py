@@ -1,4 +1,5 @@
-"""The examples of docs/FORMATS.md: scripts and texts, and what the plain model of tests/ answers, with which tests/model compares the program."""
+"""The session of README and the examples of docs/FORMATS.md: scripts and texts, and what the plain model of tests/ answers, with which
+tests/model compares the program."""
 import os
 import sys
 
@@ -6,6 +7,14 @@ sys.path.insert(0, f"{os.path.dirname(os.path.dirname(os.path.realpath(__file__)
 import plain_readers  # noqa: E402
 from plain_model import Model  # noqa: E402
 
+# README's session: each line, and what it says.
+FIRST = {
+    "addunion 9 04 0c": "Zone 9 is laid over the cells `04` and `0c`: two pairs have changed.",
+    "add 04 3": "`04` gets label 3 too.",
+    "meet 04": "Which pairs share a leaf with `04`? Two: each is printed as its cell, its label and its count.",
+    "revert 1": "Change 1, the zone, is taken back. The later change stays.",
+    "dump": "All pairs that are held, as a text that can be read back.",
+}
 # The scripts of an example, by its name: what comes before it, and its lines, each with a remark after ';'. A line of its own begins anew.
 SESSIONS = {
     "edits": ((), """
@@ -89,6 +98,26 @@ def after(lines, **limits):
     for line in lines:
         answer, _ = model.answer(line.encode())
     return model, answer
+
+
+def typed():
+    """README's session as it is typed. tests/packages reads it, and the block after it, and has each package print that."""
+    return ["```", "./s2ix run <<'END'", *FIRST, "END", "```"]
+
+
+def line_by_line():
+    """The lines of README's session, each with its answer and what it says."""
+    model = Model()
+    yield from ["| Line | Answer | What it says |", "|---|---|---|"]
+    for line, told in FIRST.items():
+        answer = ", ".join(f"`{each}`" for each in model.answer(line.encode())[0])
+        yield f"| `{line}` | {answer} | {told} |"
+
+
+def printed():
+    """What README's session prints."""
+    model = Model()
+    return ["```", *[each for line in FIRST for each in model.answer(line.encode())[0]], "```"]
 
 
 def session(name):
