@@ -16,10 +16,10 @@ import time
 import zlib
 from unittest import mock
 
-from durable_tools import FACE, FIRST, SECOND, TOP, child, in_file, rest_of, shown, told
-from s2ix import Durable, LaterForm, NotKept, Spoilt, index_file, refusals
+from durable_tools import FACE, FIRST, SECOND, TOP, child, in_file, ran, rest_of, shown, told, words_of
+from s2ix import Durable, LaterForm, NotKept, Spoilt, index_file, place, refusals
 
-MAKERS, ROUNDS, SPOILT_BYTES = 4, 20, 300
+MAKERS, ROUNDS = 4, 20
 
 
 def labels_in(path):
@@ -35,23 +35,6 @@ def seen_by_another(path):
     """The same, in another process."""
     said, _ = ran("import sys\nfrom durable_files import labels_in\nprint(repr(labels_in(sys.argv[1])))", path)
     return ast.literal_eval(said or "None")
-
-
-def words_of(call, *given, **named):
-    """The words of what a call raises."""
-    try:
-        call(*given, **named)
-    except Exception as raised:  # noqa: BLE001
-        return str(raised)
-    return ""
-
-
-def ran(words, *given, kill=False, **around):
-    """What a program of Python prints and writes to standard error; it may kill itself at its end."""
-    words += "\nimport os, sys; sys.stdout.flush(); os.kill(os.getpid(), 9)" if kill else ""
-    around = {**os.environ, "PYTHONDONTWRITEBYTECODE": "1", "PYTHONPATH": os.pathsep.join(sys.path), **around}
-    made = subprocess.run([sys.executable, "-c", words, *map(str, given)], env=around, capture_output=True, text=True, timeout=60, check=False)
-    return made.stdout, made.stderr
 
 
 # Opens an index and forks: the child waits until it is told by a file, and then ends as Python ends.
@@ -149,7 +132,7 @@ def step(path, failing):
     hand = sqlite3.connect(path, isolation_level=None)
     hand.executescript("PRAGMA wal_autocheckpoint = 0; PRAGMA synchronous = OFF")
     while os.path.getsize(f"{path}-wal") < 32 + 4120 * int(frames):
-        hand.execute("UPDATE state SET seal = seal + 1"), hand.execute("UPDATE state SET seal = seal - 1")
+        hand.execute("UPDATE s2ix_state SET seal = seal + 1"), hand.execute("UPDATE s2ix_state SET seal = seal - 1")
     kept = index.dump(), index.journal()
     number("calls").value, number("failing").value = 0, failing
     try:
@@ -326,251 +309,6 @@ with Durable(sys.argv[1]) as index:
     count.expect("what is left of it", sorted(os.listdir(folder)), before)
 
 
-def bytes_at(path):
-    """All bytes of a file whose log is empty."""
-    hand = sqlite3.connect(path)
-    hand.execute("PRAGMA wal_checkpoint(TRUNCATE)")
-    hand.close()
-    with open(path, "rb") as file:
-        return file.read()
-
-
-def check_pages(count, folder):
-    """A page of before is put in its place into the file after a step, and the other way round: it opens as before or after the step, or not."""
-    path, mixed, chance, many = f"{folder}/pages.db", f"{folder}/mixed.db", random.Random(3), 0
-    note = "n" * 1500
-    with Durable(path, synchronous="NORMAL") as index:
-        for label in range(12):
-            index.add(FACE, label, note=note)
-        steps = [lambda: index.add(FACE, 50, note=note), index.undo, index.redo, lambda: (index.undo(), index.add(FACE, 51, note=note)),
-                 lambda: (index.undo(), index.undo(), index.add(FACE, 52, note=note), index.add(FACE, 53, note=note)),
-                 lambda: (index.undo(), index.add(FACE, 54), index.undo(), index.add(FACE, 55)), lambda: index.join(3),
-                 lambda: index.forget_older(4), lambda: (index.add(FACE, 56), index.undo(), index.join(2)), index.forget,
-                 lambda: [index.add(FIRST, label, note=note) for label in range(9)], index.compact, index.clear]
-        old, states = bytes_at(path), [(shown(index), index.log())]
-        for place, step in enumerate(steps):
-            step()
-            new, states = bytes_at(path), [states[-1], (shown(index), index.log())]
-            for under, over in ((new, old), (old, new)):
-                for page in range(0, min(len(new), len(old)), 4096):
-                    taken = under[:page] + over[page : page + 4096] + under[page + 4096 :]
-                    with open(mixed, "wb") as file:
-                        file.write(taken)
-                    many += taken not in (old, new)
-                    found = told(opened, mixed)
-                    if found != "Spoilt" and found not in states:
-                        count.expect(f"page {page // 4096} of another state at step {place}", found, "Spoilt")
-            old = new
-    count.expect("pages of another state", many > 100, True)
-    return many
-
-
-def opened(path):
-    """What a file shows, with its log."""
-    with Durable(path, read_only=True) as index:
-        return shown(index), index.log()
-
-
-def check_bytes(count, folder):
-    """A byte of the file is another: it opens as it was or not, and if it takes a step, it opens again."""
-    path, spoilt, chance = f"{folder}/whole.db", f"{folder}/byte.db", random.Random(9)
-    with Durable(path) as index:
-        for label in range(6):
-            index.add(FACE, label, note="n" * 1000)
-        index.forget_older(4)
-        index.undo()
-        kept = shown(index)
-    whole = bytes_at(path)
-    wanted = {kept}
-    places = [(place, value) for place in range(110) for value in {0, 1, 2, 255} - {whole[place]}]
-    places += [(chance.randrange(110, len(whole)), chance.randrange(256)) for _ in range(SPOILT_BYTES)]
-    for place, value in places:
-        with open(spoilt, "wb") as file:
-            file.write(whole[:place] + bytes([value]) + whole[place + 1 :])
-        try:
-            with Durable(spoilt, synchronous="NORMAL") as index:
-                found = shown(index)
-                index.add(FIRST, 7)
-                after = shown(index)
-            again = in_file(spoilt)
-            if found not in wanted or again != after:
-                count.expect(f"byte {place} is {value}", (found, again), (kept, after))
-        except (Spoilt, LaterForm, sqlite3.Error, NotKept):
-            pass
-        except Exception as raised:  # noqa: BLE001
-            count.expect(f"byte {place} is {value}", repr(raised), "Spoilt")
-        for each in ("-wal", "-shm"):
-            with contextlib.suppress(FileNotFoundError):
-                os.unlink(spoilt + each)
-    for size in range(0, len(whole), 1365):
-        with open(spoilt, "wb") as file:
-            file.write(whole[:size])
-        found = told(in_file, spoilt)
-        count.expect(f"the first {size} bytes", found in ("Spoilt", kept), True)
-    return len(places)
-
-
-def check_logs_bytes(count, folder):
-    """A byte of SQLite's log is another: the file opens at a state that it had, or not."""
-    path, spoilt = f"{folder}/logged.db", f"{folder}/log.db"
-    state = """
-import os, sqlite3, sys
-from s2ix import Durable
-index = Durable(sys.argv[1])
-def copied(way):
-    hand = sqlite3.connect(sys.argv[1])
-    hand.execute(f"PRAGMA wal_checkpoint({way})").fetchall()
-    hand.close()
-for label in range(30):
-    index.add("1", label, note="n" * 700)
-copied("TRUNCATE")
-for label in range(30):
-    print(repr((index.dump(), index.journal(), index.undone_count())))
-    index.undo()
-print(repr((index.dump(), index.journal(), index.undone_count())))
-copied("PASSIVE")
-"""
-    states = {ast.literal_eval(line) for line in ran(state, path, kill=True)[0].splitlines()}
-    pieces = {end: open(path + end, "rb").read() for end in ("", "-wal")}
-    told_of = []
-    for place in range(40, len(pieces["-wal"]), 2060):
-        for end, piece in pieces.items():
-            with open(spoilt + end, "wb") as file:
-                file.write(piece[:place] + bytes([piece[place] ^ 1]) + piece[place + 1 :] if end else piece)
-        found = told(in_file, spoilt)
-        told_of.append(found)
-        for end in ("-wal", "-shm"):
-            with contextlib.suppress(FileNotFoundError):
-                os.unlink(spoilt + end)
-    wrong = [found for found in told_of if found not in states and found != "Spoilt"]
-    count.expect("states of spoilt logs", (len(states), wrong), (31, []))
-    count.expect("that some are told", "Spoilt" in told_of, True)
-
-
-ENDLESS = "WITH RECURSIVE many(n) AS (SELECT 1 UNION ALL SELECT n + 1 FROM many) SELECT {} FROM many"
-SCHEMAS = [
-    "CREATE TRIGGER lost AFTER INSERT ON change BEGIN DELETE FROM change WHERE id = new.id; END",
-    "CREATE TRIGGER wrong AFTER UPDATE ON state BEGIN UPDATE change SET seal = 0; END",
-    f"DROP TABLE state; CREATE VIEW state AS {ENDLESS.format('n, n, n, n, n, n, n, n, n')}",
-    f"DROP TABLE dump; CREATE VIEW dump AS {ENDLESS.format('n, n')}",
-    "CREATE TABLE mine (a)",
-    "CREATE INDEX by_time ON change (time)",
-    "DROP TABLE dump",
-    "ALTER TABLE change ADD COLUMN more",
-    "PRAGMA application_id = 7",
-]
-
-
-def check_schemas(count, folder):
-    """Tables of another kind, and files of other programs: they are refused at once, and stay as they are."""
-    for place, words in enumerate(SCHEMAS):
-        path = f"{folder}/schema{place}.db"
-        with Durable(path) as index:
-            index.add(FACE, 1)
-        hand = sqlite3.connect(path)
-        hand.executescript(words)
-        hand.close()
-        before = bytes_at(path)
-        start = time.monotonic()
-        found = [told(Durable, path, read_only=read_only) for read_only in (True, False)]
-        count.expect(f"refused: {words}", (found, time.monotonic() - start < 2, bytes_at(path) == before), (["Spoilt"] * 2, True, True))
-    path = f"{folder}/later.db"
-    Durable(path).close()
-    for mode in ("WAL", "DELETE"):
-        hand = sqlite3.connect(path)
-        hand.executescript(f"PRAGMA user_version = 3; PRAGMA journal_mode = {mode}; CREATE TABLE IF NOT EXISTS later (a)")
-        hand.close()
-        before = bytes_at(path)
-        found = [told(Durable, path, read_only=read_only) for read_only in (True, False)]
-        count.expect(f"a later form in the mode {mode}", (found, bytes_at(path) == before), (["LaterForm"] * 2, True))
-        count.expect("what is said of it", "later version of s2ix" in words_of(Durable, path), True)
-    path = f"{folder}/empty.db"
-    for words, given in (("one byte", b"\0"), ("a page of nothing", bytes(4096)), ("text", b"zones\n" * 300)):
-        with open(path, "wb") as file:
-            file.write(given)
-        found = told(Durable, path), told(Durable, path, read_only=True)
-        count.expect(f"a file of {words}", (found, open(path, "rb").read() == given), (("Spoilt", "Spoilt"), True))
-    os.unlink(path)
-    hand = sqlite3.connect(path)
-    hand.executescript("CREATE TABLE a (b); DROP TABLE a")
-    hand.close()
-    before = bytes_at(path)
-    count.expect("an empty database of another program", (told(Durable, path), bytes_at(path) == before), ("Spoilt", True))
-    open(path, "w").close()
-    with Durable(path) as index:
-        count.expect("an empty file", index.add(FACE, 1), 1)
-    whole = bytearray(bytes_at(path))
-    whole[104] = 0
-    with open(path, "wb") as file:
-        file.write(whole)
-    count.expect("no tables on the first page", (told(Durable, path), open(path, "rb").read() == whole), ("Spoilt", True))
-    for is_there in (True, False):
-        with open(path, "w"), open(f"{path}-wal", "wb") as file:
-            file.write(b"a log of steps")
-        if not is_there:
-            os.unlink(path)
-        found = told(Durable, path), os.path.getsize(f"{path}-wal"), os.path.exists(path)
-        count.expect("a log without its file", found, ("Spoilt", 14, is_there))
-
-
-def make_form_1(path):
-    """A file as s2ix 1.1.0 wrote it: three changes stand, one is undone, and a fifth was forgotten with its dump."""
-    def seal(given):
-        return zlib.crc32(ascii(given).encode("ascii"))
-
-    hand = sqlite3.connect(path, isolation_level=None)
-    hand.execute("PRAGMA journal_mode = WAL")
-    hand.execute("CREATE TABLE state (version, start, last, many, standing, pairs, copies, changes, seal)")
-    hand.execute("CREATE TABLE dump (text TEXT, seal INTEGER)")
-    hand.execute("CREATE TABLE change (id INTEGER PRIMARY KEY, time TEXT, note TEXT, journal TEXT, seal INTEGER, undone INTEGER)")
-    hand.execute(f"PRAGMA application_id = {0x53324958}")
-    hand.execute("PRAGMA user_version = 1")
-    dump = "s2ix 2\n1 9 1\nend 1 1\n"
-    hand.execute("INSERT INTO dump VALUES (?, ?)", (dump, seal((dump,))))
-    for label in range(2, 6):
-        row = label, f"2026-11-28T10:00:0{label}.000000+00:00", "n\u00e9e" if label == 3 else None, f"s2ix-journal 2\nchange 1\n1 {label} 0 1\nend 1\n"
-        hand.execute("INSERT INTO change VALUES (?, ?, ?, ?, ?, ?)", (*row, seal(row), int(label == 5)))
-    state = 77, 33, 6, 4, 3, 50, 9, 600
-    hand.execute("INSERT INTO state VALUES (?, ?, ?, ?, ?, ?, ?, ?, ?)", (*state, seal(state)))
-    hand.close()
-
-
-def check_form_1(count, folder):
-    """A file of form 1 is read as it is, and taken over by who writes; a spoilt one stays as it is."""
-    path = f"{folder}/form1.db"
-    make_form_1(path)
-    before = bytes_at(path)
-    with Durable(path, read_only=True) as follower:
-        kept = shown(follower), follower.log()
-        says = [(each.id, each.note, each.is_undone) for each in kept[1]]
-        count.expect("form 1", (says, kept[0][0]), ([(2, None, False), (3, "n\u00e9e", False), (4, None, False), (5, None, True)],
-                                                    "s2ix 2\n1 2 1\n1 3 1\n1 4 1\n1 9 1\nend 4 4\n"))
-        count.expect("form 1 that is only read", bytes_at(path) == before, True)
-        count.expect("form 1 under other limits", (told(Durable, path, pairs=51), bytes_at(path) == before), ("NoLimits", True))
-        with Durable(path, pairs=50) as index:
-            count.expect("form 1 taken over", (shown(index), index.log()), kept)
-            count.expect("its follower", (follower.refresh(), shown(follower), follower.log()), (True, *kept))
-            count.expect("steps then", (index.redo(), index.undo(), index.add(FACE, 8), index.log()[-1].id), (1, 1, 1, 7))
-            count.expect("its follower after steps", (follower.refresh(), shown(follower)), (True, shown(index)))
-            kept = shown(index)
-    count.expect("form 1 opened again", (in_file(path), told(Durable(path).undo)), (kept, 1))
-    for words, row in (("UPDATE change SET note = 'x' WHERE id = 4", 4), ("UPDATE state SET last = 9", 0), ("DELETE FROM change WHERE id = 3", 0),
-                       ("UPDATE dump SET text = ''", 0), ("CREATE TABLE mine (a)", 0)):
-        path = f"{folder}/form1 spoilt.db"
-        make_form_1(path)
-        hand = sqlite3.connect(path, isolation_level=None)
-        hand.execute(words)
-        hand.close()
-        before = bytes_at(path)
-        try:
-            found = told(lambda: Durable(path).close(), )
-            Durable(path)
-        except Spoilt as refusal:
-            found = refusal.row
-        count.expect(f"form 1 spoilt by {words}", (found, bytes_at(path) == before), (row, True))
-        os.unlink(path)
-
-
 def check_pickles(count):
     """Each refusal comes out of a pickle as it went in."""
     made = [NotKept("full"), Spoilt(7, "wrong"), LaterForm(3), refusals.NoDump(3), refusals.NoJournal(4), refusals.Mismatch(1, 2), refusals.Mismatch(1, 2, 3)]
@@ -613,7 +351,7 @@ def check_makers(count, folder):
 
 def check_seen(count, folder):
     """Another process has a new file open while its maker looks which log is there, and then closes it."""
-    path, see, found = f"{folder}/seen.db", index_file._Place.see, []
+    path, see, found = f"{folder}/seen.db", place.Place.see, []
     around = {**os.environ, "PYTHONDONTWRITEBYTECODE": "1", "PYTHONPATH": os.pathsep.join(sys.path)}
     words = "import sys; from s2ix import Durable\nwith Durable(sys.argv[1]) as index: index.add('1', 1), print(flush=True), input()"
 
@@ -623,14 +361,14 @@ def check_seen(count, folder):
             see(*given)
             found.append(other.communicate("\n", timeout=60)[0])
 
-    index_file._Place.see = seen
+    place.Place.see = seen
     try:
         with Durable(path) as index:
             found += [len(index), index.add(FACE, 2)]
     except sqlite3.Error as raised:
         found.append(str(raised))
     finally:
-        index_file._Place.see = see
+        place.Place.see = see
     count.expect("a new file that another process closes", (found, labels_in(path)), (["", 1, 1], [1, 2]))
 
 
@@ -666,7 +404,7 @@ def check_paths(count, folder):
         file.write(b"x" * 5000)
     for words in (words_of(Durable, path), words_of(Durable, f"{folder}/named.db", read_only=True)):
         count.expect("an error names the file", words.startswith(f"{path}: the file is spoilt: its start: "), True)
-    words = words_of(Durable, f"{folder}/none.db", read_only=True)
+    words = words_of(Durable, f"{folder}/none.db", read_only=True, timeout=0)
     count.expect("an error without a file", words, f"{folder}/none.db: unable to open database file")
     with Durable(f"{folder}/limits2.db", pairs=7):
         count.expect("an error of limits", words_of(Durable, f"{folder}/limits2.db", pairs=8).startswith(f"{folder}/limits2.db: "), True)
@@ -707,9 +445,7 @@ def check_all(count, folder):
     os.mkdir(folder)
     with tempfile.TemporaryDirectory(dir="/dev/shm" if os.path.isdir("/dev/shm") else folder) as quick:
         check_commits(count, quick)
-    for check in (check_forks, check_own, check_backup, check_logs_bytes, check_schemas, check_form_1, check_makers, check_seen, check_raised,
-                  check_paths, check_read_only_disk):
+    for check in (check_forks, check_own, check_backup, check_makers, check_seen, check_raised, check_paths, check_read_only_disk):
         check(count, folder)
     check_pickles(count)
-    pages, spoilt = check_pages(count, folder), check_bytes(count, folder)
-    print(f"durable: {pages} pages of another state, {spoilt} bytes, {ROUNDS} files made by {MAKERS}")
+    print(f"durable: {ROUNDS} files made by {MAKERS}")

@@ -2,6 +2,7 @@
 import contextlib
 import os
 import signal
+import subprocess
 import sys
 import traceback
 
@@ -77,3 +78,20 @@ def rest_of(end):
         if not piece:
             return b"".join(pieces)
         pieces.append(piece)
+
+
+def words_of(call, *given, **named):
+    """The words of what a call raises."""
+    try:
+        call(*given, **named)
+    except Exception as raised:  # noqa: BLE001
+        return str(raised)
+    return ""
+
+
+def ran(words, *given, kill=False, **around):
+    """What a program of Python prints and writes to standard error; it may kill itself at its end."""
+    words += "\nimport os, sys; sys.stdout.flush(); os.kill(os.getpid(), 9)" if kill else ""
+    around = {**os.environ, "PYTHONDONTWRITEBYTECODE": "1", "PYTHONPATH": os.pathsep.join(sys.path), **around}
+    made = subprocess.run([sys.executable, "-c", words, *map(str, given)], env=around, capture_output=True, text=True, timeout=60, check=False)
+    return made.stdout, made.stderr

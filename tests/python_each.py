@@ -12,6 +12,7 @@ import types
 from array import array
 
 import plain_cells as plain
+import timers
 from s2ix import Closed, Index, NoCell, NoSpan, S2ixError, batches, beside, library, token_of
 
 FIRST, SECOND, FACE, LEAF, OTHER = 0x0400000000000000, 0x0C00000000000000, 0x1000000000000000, 0x0400000000000001, 0xBFFFFFFFFFFFFFFF
@@ -377,8 +378,7 @@ def interrupted(call, seconds):
     try:
         signal.setitimer(signal.ITIMER_REAL, seconds)
         answer = call()
-        signal.setitimer(signal.ITIMER_REAL, 0)
-        # (a signal that came just before is still to be handled)
-        return [answer for _ in range(100)][0]
+        timers.stop()
+        return answer
     except KeyboardInterrupt:
         return None

@@ -161,9 +161,12 @@ class Walk:
 
     def differs(self):
         """What is wrong now, if something is."""
-        found = shown(self.index)
-        if found != self.model.done:
-            return f"{found} in place of {self.model.done}"
+        found, model = shown(self.index), self.model
+        # (a group in a file is only seen by the thread and the task that it is of)
+        is_apart = self.follower is not None and bool(model.open) and not model.is_of(model.open[0], 0, 0)
+        wanted = model.in_file() if is_apart else model.done
+        if found != wanted:
+            return f"{found} in place of {wanted}"
         if self.follower is not None:
             self.follower.refresh()
             if shown(self.follower) != self.model.in_file():

@@ -5,6 +5,7 @@ import gc
 import os
 import random
 import shutil
+import signal
 import sqlite3
 import subprocess
 import sys
@@ -15,13 +16,15 @@ from durable_tools import FACE, FIRST, SECOND, told
 from s2ix import Durable, Index
 
 PACKAGE = os.path.dirname(os.path.realpath(s2ix.__file__))
-TWICE, ENDS, FEW = 200, 12, 7
+TWICE, STORMS, STRIKES, ENDS, FEW = 200, 6, 12, 12, 7
+# How a step may end in a storm of interrupts.
+SAID = "nothing", "KeyboardInterrupt", "NotKept", "Closed", "NotHeld"
 JOURNAL = "s2ix-journal 2\nchange 1\n04 20 0 1\nchange 1\n04 21 0 1\nend 2\n"
 
 
 def shown(index):
     """All that an index shows: its pairs, its changes with their notes, and how many can be redone."""
-    return index.dump(), index.journal(), [(each.note, each.is_undone) for each in index.log()], index.undone_count()
+    return index.dump(), index.journal(), [(each.note, each.kind, each.is_undone) for each in index.log()], index.undone_count()
 
 
 def in_file(path):
@@ -56,6 +59,14 @@ def in_groups(index):
             index.add(SECOND, 9)
 
 
+def in_transaction(index):
+    with index.transaction(note="mine") as connection:
+        connection.execute("CREATE TABLE mine (a)")
+        index.add(FIRST, 7)
+        connection.execute("INSERT INTO mine VALUES (7)")
+        index.add(SECOND, 7)
+
+
 def in_group_that_fails(index):
     with contextlib.suppress(KeyError), index.group():
         index.add(FIRST, 7)
@@ -78,13 +89,19 @@ CALLS = {
     "forget_older": lambda index: index.forget_older(1),
     "clear": lambda index: index.clear(),
     "compact": lambda index: index.compact(),
+    "compact before": lambda index: index.compact(before=4),
+    "restore": lambda index: index.restore(3, before=4),
+    "what changes nothing": lambda index: index.set_label(1, [FACE], same_ok=True, note="same"),
     "log": lambda index: len(index.log()),
+    "log of a label": lambda index: len(index.log(label=3, newest_first=True, most=2)),
+    "as_of": lambda index: len(index.as_of(3)),
+    "a transaction": in_transaction,
     "refresh": lambda index: index.refresh(),
     "a group": in_group,
     "groups": in_groups,
     "a group that fails": in_group_that_fails,
 }
-LOCKED = ["add", "undo", "redo", "join", "forget", "a group"]
+LOCKED = ["add", "undo", "redo", "join", "forget", "a group", "a transaction"]
 
 
 class Case:
@@ -107,6 +124,11 @@ class Case:
             self.states = [shown(index)]
             told(self.call, index)
             self.states.append(shown(index))
+        if name == "compact before":
+            # (it forgets by a step of its own)
+            with self.opened() as index:
+                index.forget_older(1)
+                self.states.append(shown(index))
 
     @contextlib.contextmanager
     def opened(self):
@@ -206,6 +228,45 @@ def check_two(count, folder):
             count.expect(f"two interrupts of {case.name} from line {at} on", case.fault(index, case.states), "")
 
 
+def check_storms(count, folder):
+    """Many interrupts come one soon after the other. The step ends with one of them, or with a refusal; then memory is as the file is, or the
+    index is closed."""
+    wrong, left, chance = [], [0], random.Random(21)
+
+    def strike(_, frame):
+        # (not in this file, which would not end)
+        if left[0] and frame.f_code.co_filename.startswith(PACKAGE):
+            left[0] -= 1
+            raise KeyboardInterrupt
+
+    before = signal.signal(signal.SIGALRM, strike)
+    try:
+        for case in cases(folder):
+            for _ in range(STORMS):
+                with case.opened() as index:
+                    said = storm(case, index, left, chance.random() * 1e-3)
+                    told(index.refresh)
+                    fault = case.fault(index, case.states)
+                wrong += [f"{case.name}: {said} {fault}"] if fault or said not in SAID else []
+    finally:
+        signal.setitimer(signal.ITIMER_REAL, 0)
+        signal.signal(signal.SIGALRM, before)
+    count.expect("storms of interrupts", (len(wrong), wrong[:5]), (0, []))
+
+
+def storm(case, index, left, start):
+    """Makes a step while interrupts come, and returns what it raised."""
+    said, left[0] = "nothing", STRIKES
+    try:
+        signal.setitimer(signal.ITIMER_REAL, 1e-4 + start, 5e-5)
+        case.call(index)
+    except (KeyboardInterrupt, Exception) as raised:  # noqa: BLE001
+        said = type(raised).__name__
+    left[0] = 0
+    signal.setitimer(signal.ITIMER_REAL, 0)
+    return said
+
+
 def check_closes(count, folder):
     """An interrupt comes before each line of `close`. The next `close` does what is left: SQLite deletes the log when the file is closed."""
     case = Case(folder, "log", False)
@@ -215,6 +276,22 @@ def check_closes(count, folder):
             came = case.traced(index, {number}, interrupt)
         found = os.path.exists(f"{case.path}-wal"), in_file(case.path)
         count.expect(f"a close from line {number} on", found, (False, case.states[0]))
+        number += 1
+
+
+def check_backups(count, folder):
+    """An interrupt comes before each line of a backup. It leaves nothing, or a whole copy."""
+    case = Case(folder, "log", False)
+    case.call, number, came = lambda index: index.backup(f"{folder}/copy.db"), 0, True
+    while came:
+        with case.opened() as index:
+            came = case.traced(index, {number}, interrupt)
+            left = [name for name in os.listdir(folder) if name.startswith(".copy.db")]
+            found = in_file(f"{folder}/copy.db") if os.path.exists(f"{folder}/copy.db") else case.states[0]
+            count.expect(f"a backup from line {number} on", (left, found, case.fault(index, case.states)), ([], case.states[0], ""))
+        for name in os.listdir(folder):
+            if name.startswith("copy.db"):
+                os.unlink(f"{folder}/{name}")
         number += 1
 
 
@@ -386,5 +463,5 @@ def check_all(count):
     check_dropped(count)
     check_end(count)
     with tempfile.TemporaryDirectory(dir="/dev/shm" if os.path.isdir("/dev/shm") else None) as folder:
-        for check in (check_interrupts, check_two, check_closes, check_refreshes, check_handlers):
+        for check in (check_interrupts, check_two, check_storms, check_closes, check_backups, check_refreshes, check_handlers):
             check(count, folder)

@@ -13,16 +13,16 @@ from typing import TYPE_CHECKING, Any
 from s2ix import cells, degrees, unions
 from s2ix.index import Index
 from s2ix.refusals import (
-    BelowZero, Closed, Coarser, JournalFull, Mismatch, NoCell, NoChange, NoDifference, NoDump, NoJournal, NoLabel, NoLimits, NoRange, NoRoom,
-    NoSpan, NoSuchChange, NoSuchLabel, NotHeld, NothingToRedo, NothingToUndo, OutOfMemory, S2ixError, TooFewChanges, TooFine, TooManyCopies,
-    TooManyPairs, Unsorted,
+    BelowZero, Closed, Coarser, JournalFull, Mismatch, NoCell, NoChange, NoDifference, NoDump, NoJournal, NoLabel, NoLimits, NoRange,
+    NoRoom, NoSpan, NoSuchChange, NoSuchLabel, NotHeld, NothingToRedo, NothingToUndo, OutOfMemory, S2ixError, TooFewChanges, TooFine,
+    TooManyCopies, TooManyPairs, Unsorted,
 )
 from s2ix.rows import Entry, HeldLabel, Range, Row
 from s2ix.tokens import Cell, cell_of, is_cell, token_of
 
 if TYPE_CHECKING:
     from s2ix.durable import Durable, Logged
-    from s2ix.index_file import LaterForm, NotKept, Spoilt
+    from s2ix.form import LaterForm, NotKept, Spoilt
 
 __version__ = "1.1.0"
 
@@ -36,7 +36,7 @@ __all__ = [
 
 def __getattr__(name: str) -> Any:
     """What is of modules that need sqlite3: these are imported when it is first asked for."""
-    for module, names in ("durable", ("Durable", "Logged")), ("index_file", ("LaterForm", "NotKept", "Spoilt")):
+    for module, names in ("durable", ("Durable", "Logged")), ("form", ("LaterForm", "NotKept", "Spoilt")):
         if name in names:
             return getattr(import_module(f"s2ix.{module}"), name)
     raise AttributeError(f"module {__name__!r} has no attribute {name!r}")

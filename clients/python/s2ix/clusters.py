@@ -10,6 +10,7 @@ import hashlib
 import importlib
 import operator
 import os
+import pickle
 import threading
 from collections import OrderedDict
 from typing import Any, Hashable, Optional, Union
@@ -28,16 +29,21 @@ _opened: OrderedDict[str, Index] = OrderedDict()
 
 
 def join(
-    points: Any, dump: Union[Text, os.PathLike[str]], leaf: Hashable = "leaf", label: Hashable = "label", how: str = "inner",
+    points: Any, dump: Union[Text, os.PathLike[str], frames.Zones], leaf: Hashable = "leaf", label: Hashable = "label", how: str = "inner",
     names: Optional[Names] = None, threads: int = 1,
 ) -> Any:
     """`frames.join` of each partition of a dask.dataframe with the index of a dump, which is its text, or a path that each process can
-    open. A process opens the index once, and keeps it for later joins with the same dump. The join raises ValueError if the file has changed
-    since it was made. The `threads` are those of `Index.at_each`, for each partition: they work beside Dask's processes. ::
+    open. A process opens the index once, and keeps it for later joins with the same dump. The join raises ValueError if the file has
+    changed since it was made. The `threads` are those of `Index.at_each`, for each partition: they work beside Dask's processes. ::
 
         points = dask.dataframe.read_parquet("points")
         clusters.join(points, "zones.dump").groupby("label").size().compute()
+
+    Zones of `s2ix_places` in place of a dump join each partition by their own `join`, and give ids in a column `zone`: each worker gets
+    them once, as they stand when the join is made.
     """
+    if isinstance(dump, frames.Zones):
+        return _joined_by_zones(points, dump, "zone" if label == "label" else label, how, threads)
     frames.expect_columns(points, leaf, label, how)
     path, text = _place_of(dump)
     key = hashlib.sha256(text).hexdigest()
@@ -49,6 +55,17 @@ def join(
     # (map_partitions would cut a Series of names as it cuts the points, if it saw it)
     asked = functools.partial(_joined, key=key, leaf=leaf, label=label, how=how, names=names, threads=threads)
     return points.map_partitions(asked, source, meta=meta)
+
+
+def _joined_by_zones(points: Any, zones: frames.Zones, zone: Hashable, how: str, threads: int) -> Any:
+    joined, delayed = functools.partial(_each_by_zones, zone=zone, how=how, threads=threads), importlib.import_module("dask").delayed
+    # (their pickle goes into the graph once, and from there once to each worker)
+    source = delayed(pickle.loads)(delayed(pickle.dumps(zones), traverse=False))
+    return points.map_partitions(joined, source, meta=joined(points._meta, zones))
+
+
+def _each_by_zones(points: Any, zones: frames.Zones, zone: Hashable, how: str, threads: int) -> Any:
+    return zones.join(points, zone=zone, how=how, threads=threads)
 
 
 def _place_of(dump: Union[Text, os.PathLike[str]]) -> tuple[Optional[str], bytes]:

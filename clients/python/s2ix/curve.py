@@ -16,6 +16,19 @@ _POSITIONS = ((0, 1), (3, 2))
 _TURNS = (1, 0, 0, 3)
 
 
+def _quadrant(turned: int, position: int) -> tuple[int, int, int]:
+    """The column and the row of the quadrant at a position of a square, and by which bits it is turned against that."""
+    column, row = next((i, j) for i in (0, 1) for j in (0, 1) if _POSITIONS[i][j] == position)
+    if turned & 2:
+        column, row = 1 - column, 1 - row
+    if turned & 1:
+        column, row = row, column
+    return column, row, _TURNS[position]
+
+
+_QUADRANTS = [[_quadrant(turned, position) for position in range(4)] for turned in range(4)]
+
+
 def leaf_of(face: int, i: int, j: int) -> int:
     """The leaf at a column and a row, 0 to 2^30 - 1 each, of a face, 0 to 5. None of them is checked.
 
@@ -24,6 +37,22 @@ def leaf_of(face: int, i: int, j: int) -> int:
     """
     number: int = _number(_table(), face, i, j)
     return 2 * number + 1
+
+
+def square_of(cell: int) -> tuple[int, int, int, int]:
+    """The face of a cell, the column and the row of its first leaf on each side, and how many leaves lie along its side. It is not checked.
+
+    >>> square_of(0x4aaaaaaaaaaaaaab)
+    (2, 0, 1073741823, 1)
+    """
+    lowest = cell & -cell
+    face, turned, i, j = cell >> 61, cell >> 61 & 1, 0, 0
+    level = 30 - (lowest.bit_length() - 1) // 2
+    for low in range(59, 59 - 2 * level, -2):
+        column, row, turn = _QUADRANTS[turned][cell >> low & 3]
+        i, j, turned = 2 * i + column, 2 * j + row, turned ^ turn
+    side = 1 << 30 - level
+    return face, i * side, j * side, side
 
 
 def leaves_of(numpy: Any, faces: Any, columns: Any, rows: Any) -> Any:

@@ -1,4 +1,5 @@
-"""Leaves from degrees, as S2 finds them. This needs neither an index nor the library. It is not proved, but tested beside S2.
+"""Leaves from degrees, as S2 finds them, and the corners of cells. This needs neither an index nor the library. It is not proved, but
+tested beside S2.
 
 S2 puts a point on the unit sphere, divides it by its longest coordinate so that it lies on a face of a cube, and stretches the face by a
 square root, so that cells become more alike in size. All this is done in doubles and in S2's order, so that each id is S2's.
@@ -14,6 +15,7 @@ import sys
 from typing import Any, Protocol, Union, overload
 
 from s2ix import curve
+from s2ix.tokens import Cell, cell_of, is_cell, no_cell
 
 # How many radians a degree has, and how many leaves lie across a face.
 _RADIANS = math.pi / 180
@@ -60,6 +62,49 @@ def leaf(latitude: Any, longitude: Any) -> Any:
     if not -sys.float_info.max <= longitude <= sys.float_info.max:
         raise _refusal("longitude", longitude)
     return _leaf(float(latitude), float(longitude))
+
+
+def corners(cell: Cell, parts: int = 1) -> list[tuple[float, float]]:
+    """The corners of a cell, each a latitude and a longitude in degrees, in S2's order: they turn left around the cell. With more `parts`
+    each side is cut into so many of the same number of leaves, and their ends are listed too: sides of great cells bend on a map.
+
+    Longitudes are -180 to 180. That of a corner on the date line is 180 or -180, as the cell lies, and a corner at a pole has the
+    longitude of the middle of its cell. A whole face has corners on both sides of the date line, or goes around a pole. Raises NoCell, and
+    ValueError for parts that aren't 1 or a power of two, or more than the leaves of a side.
+
+    >>> corners("1")
+    [(-35.264389682754654, -45.0), (-35.264389682754654, 45.0), (35.264389682754654, 45.0), (35.264389682754654, -45.0)]
+    """
+    number = cell_of(cell) if isinstance(cell, str) else cell
+    if not is_cell(number):
+        raise no_cell(number)
+    face, i, j, side = curve.square_of(number)
+    if not 0 < parts <= side or parts & parts - 1:
+        raise ValueError(f"{parts} parts of a side of {side} leaves")
+    step, along = side // parts, range(parts)
+    squares = [(i + step * k, j) for k in along] + [(i + side, j + step * k) for k in along]
+    squares += [(i + side - step * k, j + side) for k in along] + [(i, j + side - step * k) for k in along]
+    _, middle = _place(face, i + side / 2, j + side / 2, 0)
+    return [_place(face, column, row, middle) for column, row in squares]
+
+
+def _place(face: int, i: float, j: float, middle: float) -> tuple[float, float]:
+    """The latitude and longitude at the low ends of a column and a row, beside a middle whose side of the date line it takes."""
+    u, v = _along(i), _along(j)
+    x, y, z = ((1, u, v), (-u, 1, v), (-u, -v, 1), (-1, -v, -u), (v, -1, -u), (v, u, -1))[face]
+    if x == y == 0:
+        return math.copysign(90, z), middle
+    # (0.0 for -0.0)
+    latitude = math.degrees(math.atan2(z, math.sqrt(x * x + y * y))) + 0.0
+    if y == 0 and x < 0:
+        return latitude, math.copysign(180, middle)
+    return latitude, math.degrees(math.atan2(y, x)) + 0.0
+
+
+def _along(whole: float) -> float:
+    """Where the low end of a column lies on a face, which goes from -1 to 1."""
+    share = whole / _ACROSS
+    return (4 * share * share - 1) / 3 if share >= 0.5 else (1 - 4 * (1 - share) * (1 - share)) / 3
 
 
 def _leaf(latitude: float, longitude: float) -> int:

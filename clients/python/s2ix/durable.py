@@ -3,79 +3,73 @@ from __future__ import annotations
 
 import operator
 import os
-from datetime import datetime, timezone
+import sqlite3
+from datetime import datetime
 from functools import partial
-from typing import Any, Callable, NamedTuple, Optional, TypeVar, Union
+from typing import Any, Callable, Optional, TypeVar, Union
 
-from s2ix.given import MOST_U32, Cells, Entries, Rows, Text, bytes_of, check_natural
-from s2ix.groups import Group, OpenGroup
-from s2ix.index import Index, is_still
-from s2ix.index_file import (
-    DROP_LATER, DROP_OLDER, DROP_UNDONE, EMPTY, INSERT, MARK, PUT_DUMP, Change, Found, IndexFile, NotKept, Spoilt, State, Write,
-    chained, naming, new_version, seal_of,
-)
-from s2ix.refusals import Closed, NoDump, NoJournal, NoLimits, NothingToRedo, NothingToUndo, OutOfMemory, S2ixError, TooFewChanges
-from s2ix.steps import Steps
-from s2ix.tokens import Cell, token_of
+from s2ix.form import EMPTY, Limits, Noted, Undone, inverse_of, shortening_writes
+from s2ix.given import MOST_LABEL, MOST_U32, MOST_U63, Cells, Entries, Rows, Text, bytes_of, check, check_natural
+from s2ix.groups import Block, Group, OpenGroup
+from s2ix.index import Index
+from s2ix.index_file import IndexFile, naming
+from s2ix.kept import Edit, Words, text_of, undone_after
+from s2ix.logged import Log, Logged, Moment, asked_for, cut_at
+from s2ix.refusals import BelowZero, NoLabel, NoLimits, NoSuchChange, NothingToRedo, NothingToUndo, TooFewChanges
+from s2ix.tokens import Cell
 
 _Made = TypeVar("_Made")
 
-_HEAD, _END = "s2ix-journal 2\n", "end 1\n"
+__all__ = ["Durable", "Logged", "Transaction"]
+
 # What Unicode calls white space, which may stand round a word of a script.
 _SPACES = "\t\n\v\f\r \x85\xa0\u1680\u2000\u2001\u2002\u2003\u2004\u2005\u2006\u2007\u2008\u2009\u200a\u2028\u2029\u202f\u205f\u3000"
+# The kinds of steps that have another word in a script, and those that have the same.
+_KINDS = {"addunion": "add_union", "drop": "drop_label", "normal": "normalise_label"}
+_KINDS.update((kind, kind) for kind in ("add", "remove", "relabel", "grow", "revert"))
 
 
-class Logged(NamedTuple):
-    """A change in the file: its id, which no other ever has; when it was made, in UTC; its note; and whether it is undone."""
+class Transaction(Block):
+    """A group whose `with` gives SQLite's connection, for tables of a caller's own: see `Durable.transaction`."""
 
-    id: int
-    time: datetime
-    note: Optional[str]
-    is_undone: bool
+    _is_lent = True
 
-
-def _note_of(note: Optional[str]) -> Optional[str]:
-    """A note as it will come back from the file."""
-    if note is None or type(note) is str:
-        return note
-    if not isinstance(note, str):
-        raise TypeError(f"a note is a str, not {type(note).__name__}")
-    return str.__str__(note)
+    def __enter__(self) -> sqlite3.Connection:
+        self._enter()
+        index = self._index
+        assert isinstance(index, Durable)
+        return index._connection()
 
 
-def _group_of(change: Change) -> str:
-    """The lines of a change within a journal."""
-    group = change.journal[len(_HEAD) : -len(_END)]
-    if change.journal != _HEAD + group + _END or not group.startswith("change ") or group.count("change ") != 1:
-        raise Spoilt(change.id, "it is no journal of one change")
-    return group
-
-
-class Durable(Steps):
+class Durable(Log):
     """An index in a file. What its calls did is there when they return, and comes back when the file is opened again, after a crash too:
-    the pairs, and all changes that can be undone or redone.
+    the pairs, all changes that can be undone or redone, and a log of all steps.
 
-    Each edit may have a `note`. `log` lists the changes with their ids, times and notes, and `revert(id=7)` takes one back. If the file
-    refuses a step, as on a full disk, the step is taken back in memory, and NotKept is raised, with the file's own error as its cause. A
-    step that is in SQLite's log, although its COMMIT failed, is also written over: it might come back after a crash. So memory and file never
-    differ. The index is closed if memory is wanted to take a step back, or if the file can't even say whether it has the step, or can't
-    write over it: then its own error is raised, and what is opened next is as before or after the step. An interrupt, as by Ctrl-C, may come
-    anywhere: then the step is done or taken back, or the index is closed. In a group nothing is written until its end.
+    Each step may have a `note`, and `who` makes it. `log` lists the steps, and `entries` what one changed; `as_of` is the index of any
+    moment. No step leaves the log, what can be undone or not, unless `compact(before=..)` shortens it. `revert(id=7)` takes a change back,
+    and `restore` gives a label what it had.
+
+    If the file refuses a step, as on a full disk, the step is taken back in memory, and NotKept is raised, with the file's own error as its
+    cause. A step that is in SQLite's log, although its COMMIT failed, is also written over: it might come back after a crash. So memory and
+    file never differ. The index is closed if memory is wanted to take a step back, or if the file can't even say whether it has the step,
+    or can't write over it: then its own error is raised, and what is opened next is as before or after the step. An interrupt, as by
+    Ctrl-C, may come anywhere: then the step is done or taken back, or the index is closed. In a group nothing is written until its end.
 
     One process writes to a file; others follow it by `read_only=True` and `refresh`. If another process has written to the file, each step
     that would write to it raises NotKept until `refresh` has brought the index up to date. Threads may share it: an edit waits for another
-    thread's edit or group. A finalizer or a signal handler may ask, and may make a step, but not within a step of its own thread: then an
-    edit, `refresh`, `log` and `close` raise RuntimeError, and nothing has changed. In a forked child each step raises Closed, and the child
-    can't open the file anew: open it after the fork, or start the child by `spawn`.
+    thread's edit or group; a thread that only asks doesn't wait, and sees what was held before the group, as followers do. A finalizer or a
+    signal handler may ask, and may make a step, but not within a step of its own thread: then an edit, `refresh`, `log` and `close` raise
+    RuntimeError, and nothing has changed. In a forked child each step raises Closed, and the child can't open the file anew: open it after
+    the fork, or start the child by `spawn`.
 
-    The file and its log beside it, `zones.db-wal`, belong together: copy them by `backup` alone, and don't open, move, replace or delete them
-    while the index is open. A process that opens and closes its own file in another way drops the locks that keep others from deleting the
-    log. If another file or log comes to the path, or none is there, each step raises NotKept, `refresh` raises sqlite3.OperationalError, and
-    what is in memory can still be read. If a byte of the log goes wrong on the disk, SQLite drops the steps from there on. That shows on
-    opening if pages of later steps are in the file; else the file opens at an earlier step.
+    The file and its log beside it, `zones.db-wal`, belong together: copy them by `backup` alone, and don't open, move, replace or delete
+    them while the index is open. A process that opens and closes its own file in another way drops the locks that keep others from deleting
+    the log. If another file or log comes to the path, or none is there, each step raises NotKept, `refresh` raises
+    sqlite3.OperationalError, and what is in memory can still be read. If a byte of the log goes wrong on the disk, SQLite drops the steps
+    from there on. That shows on opening if pages of later steps are in the file; else the file opens at an earlier step.
 
-    After 100,000 changes, or as many as the limits say, an edit raises JournalFull: `forget_older` makes room. A dump comes into an open
-    index by one change, `zones.record(zones.difference(Index.load(dump)))`.
+    After 100,000 changes, or as many as the limits say, an edit raises JournalFull: `forget_older` makes room, or `keep="newest"` does by
+    itself. A dump comes into an open index by one change, `zones.record(zones.difference(Index.load(dump)))`.
 
     >>> import os, tempfile
     >>> path = os.path.join(tempfile.mkdtemp(), "zones.db")
@@ -87,33 +81,32 @@ class Durable(Steps):
     ([(1, 'match day'), (2, None)], 1, 1, 1)
     """
 
-    __slots__ = ("_file", "_is_in_doubt", "_standing", "_undone", "_has_edited", "_redoable")
+    __slots__ = ("_has_edited", "_redoable", "_keeps_newest")
 
     def __init__(
         self, path: Union[str, os.PathLike[str]], pairs: Optional[int] = None, copies: Optional[int] = None,
         changes: Optional[int] = None, *, read_only: bool = False, synchronous: str = "FULL", timeout: float = 5.0,
+        who: Optional[str] = None, keep: str = "all",
     ) -> None:
         """Opens the index in a file, or makes a file of an empty one, under limits as those of `Index`. A file that is there has its own
-        limits. O(n + m log n) for n pairs and m entries of all changes.
+        limits. O(n + m log n) for n pairs and m entries of the changes that can be undone and of the steps since the last saved state.
 
         `synchronous` is FULL, by which no step is lost if the power fails, or NORMAL, which is faster, and may lose the last steps then; if
-        only the process is killed, no step is lost. `timeout` is how many seconds a step waits while another process writes.
+        only the process is killed, no step is lost. `timeout` is how many seconds a step waits while another process writes, and a reader
+        until another has made the file. `who` makes each step that doesn't say so itself. With `keep="newest"` an edit that finds as many
+        changes as the limit allows forgets the oldest fourth of them, as `forget_older` does, and a group begins with room for a fourth.
 
-        A file of 0 bytes is a new one. A file as s2ix 1.1 wrote it is taken over into today's form, which 1.1 can't read; with `read_only` it
-        stays as it is. Raises Spoilt if it is no file of an index, or not as it was written, or if its log is there without it; LaterForm if a
-        later version wrote it; NoLimits if it has other limits than those that are given; OutOfMemory; and sqlite3.Error if it can't be
-        opened. The words begin with the path."""
-        if synchronous not in ("FULL", "NORMAL"):
-            raise ValueError(f"synchronous is FULL or NORMAL, not {synchronous!r}")
-        widest = (pairs, 1_000_000), (copies, MOST_U32), (changes, 100_000)
-        most_pairs, most_copies, most_changes = (most if limit is None else int(operator.index(limit)) for limit, most in widest)
-        limits = most_pairs, most_copies, most_changes
+        A file of 0 bytes is a new one. A file as s2ix 1.1 wrote it is taken over into today's form, which 1.1 can't read; with `read_only`
+        it stays as it is. Raises Spoilt if it is no file of an index, or not as it was written, or if its log is there without it;
+        LaterForm if a later version wrote it; NoLimits if it has other limits than those that are given; OutOfMemory; and sqlite3.Error if
+        it can't be opened. The words begin with the path."""
+        _expect_one_of("synchronous", synchronous, "FULL", "NORMAL")
+        _expect_one_of("keep", keep, "all", "newest")
+        asked = pairs, copies, changes
+        limits = _limits_of(asked)
         super().__init__(*limits)
-        # Whether the file may have a step that isn't noted.
+        self._who, self._keeps_newest = text_of(who, "who"), keep == "newest"
         self._is_in_doubt = False
-        # The changes that can be undone; and those that can be redone, the next one last.
-        self._standing: list[Change] = []
-        self._undone: list[Change] = []
         # In a group: whether it has edited, and how many of its changes are undone.
         self._has_edited, self._redoable = False, 0
         name = os.fsdecode(path)
@@ -121,10 +114,7 @@ class Durable(Steps):
             self._file = IndexFile(name, limits, read_only=read_only, synchronous=synchronous, timeout=timeout)
             try:
                 self.refresh()
-                found = self._file.state.limits()
-                for given, limit in zip((pairs, copies, changes), found):
-                    if given is not None and given != limit:
-                        raise NoLimits(f"the file has other limits: {found}")
+                _expect_limits(asked, self._file.noted.state.limits())
                 if self._file.take_over():
                     self.refresh()
             except BaseException:
@@ -134,276 +124,244 @@ class Durable(Steps):
     def __enter__(self) -> Durable:
         return self
 
-    def _shut(self) -> None:
-        super()._shut()
-        self._file.close()
+    # How edits are kept.
 
-    # The log.
-
-    def log(self) -> list[Logged]:
-        """The changes in the file, the oldest first: those that can be undone, by their numbers, then those that can be redone. Raises
-        Closed, and RuntimeError within a step."""
-        listed = self._in_turn(self._changes, is_of_a_task=False)
-        return [Logged(change.id, datetime.fromisoformat(change.time), change.note, is_undone) for change, is_undone in listed]
-
-    def _changes(self) -> list[tuple[Change, bool]]:
-        super().done_count()
-        return [(change, False) for change in self._standing] + [(change, True) for change in reversed(self._undone)]
-
-    def refresh(self) -> bool:
-        """Brings the index up to what the file holds now, and returns whether that is something new: it takes back what was undone there
-        and does what was done. It costs what these steps do, and doing and undoing the changes that can be redone, which it reads again; or
-        what opening does if changes were forgotten. Raises Closed, sqlite3.Error if
-        the file can't be read, Spoilt and OutOfMemory. The index is closed after OutOfMemory, and after Spoilt it may be if changes were
-        forgotten."""
-        return self._in_turn(self._refresh)
-
-    def _refresh(self) -> bool:
-        super().done_count()
-        self._expect_no_group()
-        found = self._file.read(self._standing)
-        if found is not None:
-            self._whole(partial(self._take_news, found), lambda _: self._shut())
-        return found is not None
-
-    def _settle(self) -> None:
-        """If the file may have a step that isn't noted, brings memory up to what it holds."""
-        if self._is_in_doubt and self._is_open():
-            found = self._file.read(self._standing)
-            if found is not None:
-                self._take_news(found)
-            self._is_in_doubt = False
-
-    def _take_news(self, found: Found) -> None:
-        """Goes in memory to what the file holds, and notes it. If that is spoilt, and begins as what is noted, memory stays as it was."""
-        try:
-            self._follow(found)
-        except Spoilt:
-            if found.dump is None:
-                self._restore()
-                self._is_torn = False
-            raise
-        self._book(found.keep, found.standing, found.undone)
-        self._file.state = found.state
-
-    def _follow(self, found: Found) -> None:
-        """Goes in memory to other changes: some of those that stand stay, the others come from the file."""
-        if found.dump is not None:
-            try:
-                self._edited(self._load, found.dump, *found.state.limits())
-            except (NoDump, NoLimits) as refusal:
-                raise Spoilt(0, refusal) from refusal
-        while super().done_count() > found.keep:
-            super().undo()
-        self._do([*found.standing, *reversed(found.undone)])
-        for _ in found.undone:
-            super().undo()
-
-    def _do(self, changes: list[Change]) -> None:
-        """Does changes, or tells which of them is wrong."""
-        groups = [_group_of(change) for change in changes]
-        try:
-            super().apply(f"{_HEAD}{''.join(groups)}end {len(groups)}\n")
-        except (Closed, OutOfMemory):
-            raise
-        except NoJournal as refusal:
-            line = 1
-            for change, group in zip(changes, groups):
-                line += group.count("\n")
-                if refusal.line <= line:
-                    raise Spoilt(change.id, refusal) from refusal
-            raise
-        except S2ixError as refusal:
-            raise Spoilt(changes[refusal.change - 1].id, refusal) from refusal
-
-    # How steps are kept.
-
-    def _book(self, keep: int, standing: list[Change], undone: list[Change]) -> None:
-        """Notes what the file holds: so many of the changes that stood, and others."""
-        self._standing[keep:] = [change.without_journal() for change in standing]
-        self._undone = undone
-
-    def _put(
-        self, writes: list[Write], keep: int, standing: list[Change], undone: list[Change], last: Optional[int] = None, *,
-        dump: Optional[str] = None, dropped: int = 0,
-    ) -> None:
-        """Makes some writes one transaction, after which the file holds so many of the changes that stood, and others. A dump may take the
-        place of so many that are dropped. If the file refuses it, it is as it was, and NotKept is raised."""
-        version, stand, newest, before = new_version(), keep + len(standing), undone[:1] or standing[-1:], self._file.state
-        start, seal, base = before.start, before.dump, before.base
-        if dump is not None:
-            start, seal, base = version, seal_of((dump,)), self._seal_after(dropped)
-            writes = [(PUT_DUMP, (dump, seal)), *writes]
-        tip = newest[0].seal if newest else self._seal_after(keep + dropped)
-        counts = before.last if last is None else last, stand + len(undone), stand
-        state = State(version, start, *counts, *before.limits(), seal, base, tip)
-        # (unless it is done or refused, the file may have it)
-        self._is_in_doubt = True
-        try:
-            self._file.write(writes, state, partial(self._book, keep, standing, undone))
-        except NotKept:
-            self._is_in_doubt = False
-            raise
-        except BaseException:
-            if self._file.is_closed():
-                self._shut()
-            raise
-        self._is_in_doubt = False
-
-    def _seal_after(self, many: int) -> int:
-        """The seal that a change follows after so many of those that stand."""
-        return self._standing[many - 1].seal if many else self._file.state.base
-
-    def _restore(self, is_over: bool = False) -> None:
-        """Brings memory back to what is noted, after a step. `is_over` says that what could be redone may be gone, though no change is left
-        of the step."""
-        if not self._is_open():
-            return
-        is_over = is_over or super().done_count() > len(self._standing)
-        while super().done_count() > len(self._standing):
-            super().undo()
-        while super().done_count() < len(self._standing):
-            super().redo()
-        if is_over and self._undone:
-            self._do(self._undone[::-1])
-            for _ in self._undone:
-                super().undo()
-
-    def _text(self, number: int, done: int) -> str:
-        """The journal of one change, of so many that can be undone."""
-        if number == done:
-            return super().journal(number)
-        entries = super().change(number)
-        lines = [f"{token_of(each.cell)} {each.label} {each.before} {each.after}\n" for each in entries]
-        return "".join([_HEAD, f"change {len(entries)}\n", *lines, _END])
-
-    def _step(self, note: Optional[str], make: Callable[..., _Made], *given: Any) -> _Made:
-        """Makes an edit, and keeps its change."""
-        answer: _Made = self._in_turn(self._make_edit, _note_of(note), make, given)
+    def _step(
+        self, kind: str, said: tuple[Optional[str], Optional[str]], make: Callable[..., _Made], *given: Any, of: Optional[int] = None,
+        room: int = 1, noted: Optional[int] = None,
+    ) -> _Made:
+        """Makes an edit of a kind, and keeps its change. It wants room for so many changes. If it changes nothing, its note is kept for a
+        label that is noted."""
+        answer: _Made = self._in_turn(self._make_edit, Edit(kind, self._whose(*said), of, room, noted), make, given)
         return answer
 
-    def _make_edit(self, note: Optional[str], make: Callable[..., Any], given: tuple[Any, ...]) -> Any:
+    def _make_edit(self, edit: Edit, make: Callable[..., Any], given: tuple[Any, ...]) -> Any:
         self._file.expect_writer()
         if self._groups:
             return self._edit_in_group(make, given)
-        return self._whole(partial(self._edit_and_keep, note, make, given), self._restore)
+        self._make_room(edit.room, edit.words)
+        return self._whole(partial(self._edit_and_keep, edit, make, given), self._restore)
 
-    def _edit_and_keep(self, note: Optional[str], make: Callable[..., Any], given: tuple[Any, ...]) -> Any:
+    def _edit_and_keep(self, edit: Edit, make: Callable[..., Any], given: tuple[Any, ...]) -> Any:
         answer = make(*given)
-        self._keep(note)
+        self._keep(edit)
         return answer
 
     def _edit_in_group(self, make: Callable[..., _Made], given: tuple[Any, ...]) -> _Made:
         """Makes an edit, and notes whether it dropped what could be redone. If an interrupt keeps that from being known, it did."""
-        before, noted = super().done_count(), (self._has_edited, self._redoable)
+        before, noted = self._done(), (self._has_edited, self._redoable)
         self._has_edited, self._redoable = True, 0
         try:
             return make(*given)
         finally:
-            if super().done_count() == before:
+            if self._done() == before:
                 self._has_edited, self._redoable = noted
 
-    def _keep(self, note: Optional[str], is_over: bool = False) -> None:
-        """Keeps the changes that the file hasn't, and drops there what can be redone, if there is one or it is over."""
-        first, done = len(self._standing) + 1, super().done_count()
-        if done < first and not (is_over and self._undone):
-            return
-        time = datetime.now(timezone.utc).isoformat(timespec="microseconds")
-        last = self._file.state.last
-        rows = [(last + 1 + number - first, time, note, self._text(number, done)) for number in range(first, done + 1)]
-        new = chained(rows, self._seal_after(first - 1))
-        writes: list[Write] = [(DROP_UNDONE, ())] if self._undone else []
-        self._put([*writes, *((INSERT, change.values()) for change in new)], first - 1, new, [], last + len(new))
+    def _keep(self, edit: Edit, is_over: bool = False, is_lent: bool = False) -> None:
+        """Keeps the changes that the file hasn't, and drops what can be redone, if there is one or it is over. Without either it keeps what
+        is noted of a label, and what a caller wrote."""
+        noted = self._file.noted
+        many, done = noted.many, self._done()
+        changes: list[Optional[str]] = [self._lines_of(number) for number in range(many + 1, done)]
+        if done > many:
+            changes.append(self._last_change(done))
+            first = noted.state.last + 1
+            noted.standing[many:] = range(first, first + len(changes))
+            self._put(edit.kind, edit.words, changes, noted.standing, done, [], of=edit.of)
+        elif is_over and noted.undone:
+            self._put(edit.kind, edit.words, [None], noted.standing, many, [])
+        elif is_lent or edit.label is not None and edit.words.note is not None:
+            self._put(edit.kind, edit.words, [] if is_lent else [None], noted.standing, many, noted.undone, label=edit.label)
+
+    def _make_room(self, many: int, words: Words) -> None:
+        """Forgets the oldest changes, if it may, and there is no room for so many more."""
+        noted = self._file.noted
+        most = noted.state.changes
+        if self._keeps_newest and noted.many + many > most:
+            self._forget_but(max(0, min(most * 3 // 4, most - many)), Words(None, words.who))
 
     # Edits, each with a note.
 
-    def add(self, cell: Cell, label: int, copies: int = 1, *, note: Optional[str] = None) -> int:
+    def add(self, cell: Cell, label: int, copies: int = 1, *, note: Optional[str] = None, who: Optional[str] = None) -> int:
         """As `Index.add`. Each edit may raise NotKept too."""
-        return self._step(note, super().add, cell, label, copies)
+        return self._step("add", (note, who), super().add, cell, label, copies)
 
-    def add_all(self, rows: Rows, *, note: Optional[str] = None) -> int:
+    def add_all(self, rows: Rows, *, note: Optional[str] = None, who: Optional[str] = None) -> int:
         """As `Index.add_all`."""
-        return self._step(note, super().add_all, rows)
+        return self._step("add_all", (note, who), super().add_all, rows)
 
-    def remove(self, cell: Cell, label: int, copies: int = 1, *, note: Optional[str] = None) -> int:
+    def remove(self, cell: Cell, label: int, copies: int = 1, *, note: Optional[str] = None, who: Optional[str] = None) -> int:
         """As `Index.remove`."""
-        return self._step(note, super().remove, cell, label, copies)
+        return self._step("remove", (note, who), super().remove, cell, label, copies)
 
-    def remove_all(self, rows: Rows, *, note: Optional[str] = None) -> int:
+    def remove_all(self, rows: Rows, *, note: Optional[str] = None, who: Optional[str] = None) -> int:
         """As `Index.remove_all`."""
-        return self._step(note, super().remove_all, rows)
+        return self._step("remove_all", (note, who), super().remove_all, rows)
 
-    def add_union(self, cells: Cells, label: int, *, note: Optional[str] = None) -> int:
+    def add_union(self, cells: Cells, label: int, *, note: Optional[str] = None, who: Optional[str] = None) -> int:
         """As `Index.add_union`."""
-        return self._step(note, super().add_union, cells, label)
+        return self._step("add_union", (note, who), super().add_union, cells, label)
 
-    def drop_label(self, label: int, *, note: Optional[str] = None) -> int:
-        """As `Index.drop_label`."""
-        return self._step(note, super().drop_label, label)
+    def drop_label(self, label: int, *, same_ok: bool = False, note: Optional[str] = None, who: Optional[str] = None) -> int:
+        """As `Index.drop_label`. With `same_ok` and a note the log has that note, though nothing changes."""
+        make = partial(super().drop_label, same_ok=same_ok)
+        return self._step("drop_label", (note, who), make, label, noted=_label_of(label))
 
-    def set_label(self, label: int, cells: Cells, *, note: Optional[str] = None) -> int:
-        """As `Index.set_label`."""
-        return self._step(note, super().set_label, label, cells)
+    def set_label(
+        self, label: int, cells: Cells, *, same_ok: bool = False, note: Optional[str] = None, who: Optional[str] = None
+    ) -> int:
+        """As `Index.set_label`. With `same_ok` and a note the log has that note, though nothing changes."""
+        make = partial(super().set_label, same_ok=same_ok)
+        return self._step("set_label", (note, who), make, label, cells, noted=_label_of(label))
 
-    def relabel(self, source: int, target: int, *, note: Optional[str] = None) -> int:
+    def relabel(self, source: int, target: int, *, note: Optional[str] = None, who: Optional[str] = None) -> int:
         """As `Index.relabel`."""
-        return self._step(note, super().relabel, source, target)
+        return self._step("relabel", (note, who), super().relabel, source, target)
 
-    def grow(self, label: int, level: int, *, note: Optional[str] = None) -> int:
+    def grow(self, label: int, level: int, *, note: Optional[str] = None, who: Optional[str] = None) -> int:
         """As `Index.grow`."""
-        return self._step(note, super().grow, label, level)
+        return self._step("grow", (note, who), super().grow, label, level)
 
-    def normalise_label(self, label: int, *, note: Optional[str] = None) -> int:
+    def normalise_label(self, label: int, *, note: Optional[str] = None, who: Optional[str] = None) -> int:
         """As `Index.normalise_label`."""
-        return self._step(note, super().normalise_label, label)
+        return self._step("normalise_label", (note, who), super().normalise_label, label)
 
-    def revert(self, change: Optional[int] = None, *, id: Optional[int] = None, note: Optional[str] = None) -> int:
-        """Takes back a change, by its number or by its id, and leaves those that followed it. Else as `Index.revert`."""
+    def revert(
+        self, change: Optional[int] = None, *, id: Optional[int] = None, note: Optional[str] = None, who: Optional[str] = None
+    ) -> int:
+        """Takes back a change, by its number or by the id of its step, and leaves those that followed it. Else as `Index.revert`. `step` of
+        BelowZero is the id of the later step that took copies."""
         if (change is None) == (id is None):
             raise TypeError("revert takes the number of a change, or its id")
-        if change is not None:
-            return self._step(note, super().revert, change)
-        return self._step(note, self._revert_id, id)
+        return self._in_turn(self._revert, change, id, self._whose(note, who))
 
-    def _revert_id(self, id: int) -> int:
-        # (no change has the number 0)
-        return super().revert(next((number for number, each in enumerate(self._standing, 1) if each.id == id), 0))
+    def _revert(self, change: Optional[int], id: Optional[int], words: Words) -> int:
+        place = operator.index((id if change is None else change) or 0)
+        if not self._groups:
+            # (to make room moves the numbers of changes, and not their ids)
+            id = place if change is None else self._id_at(place)
+            self._file.expect_writer()
+            self._make_room(1, words)
+            place = self._place_of(id)
+        elif change is None:
+            place = self._place_of(place)
+        answer: int = self._make_edit(Edit("revert", words, self._id_at(place), 1, None), super().revert, (place,))
+        return answer
 
-    def record(self, entries: Entries, *, note: Optional[str] = None) -> int:
+    def _id_at(self, place: int) -> Optional[int]:
+        """The id of the change of a number, or None if the file has none."""
+        noted = self._file.noted
+        return noted.standing[place - 1] if 0 < place <= noted.many else None
+
+    def _place_of(self, id: Optional[int]) -> int:
+        """The number of the change of an id, or 0, which no change has."""
+        standing = self._file.noted.standing[: self._file.noted.many]
+        return standing.index(id) + 1 if id is not None and id in standing else 0
+
+    def _below_zero(self, change: int) -> BelowZero:
+        found, noted = super()._below_zero(change), self._file.noted
+        if found.cell is None or found.label is None or found.later is None or found.later > noted.many:
+            return found
+        steps = noted.standing[change - 1], noted.standing[found.later - 1]
+        return BelowZero(found.cell, found.label, change, found.later, steps)
+
+    def restore(self, label: int, before: int, *, note: Optional[str] = None, who: Optional[str] = None) -> int:
+        """Gives a label the cells and counts that it had before a step in the log, by its id, as one new change, whatever came later;
+        returns how many pairs changed. O(n + m) for n pairs and m entries of the steps of the label from that one on. Raises NoLabel,
+        NoSuchChange if the log hasn't got the step, Spoilt, and what each edit may, as NoChange if the label is as it was."""
+        return self._step("restore", (note, who), self._restore_label, label, before, of=operator.index(before))
+
+    def _restore_label(self, label: int, before: int) -> int:
+        label, before = check(label, MOST_LABEL, NoLabel), check(before, MOST_U63, NoSuchChange)
+        index = self._before if self._groups and self._before is not None else self
+        # (the log has nothing of a group that has not ended)
+        logged = {row.cell: row.count for row in Index.of_label(index, label)}
+        wanted = self._file.reading(lambda book: self._label_before(book, label, before, logged))
+        return self._give_label(label, self._counts_of(label), wanted)
+
+    def record(self, entries: Entries, *, note: Optional[str] = None, who: Optional[str] = None) -> int:
         """As `Index.record`."""
-        return self._step(note, super().record, entries)
+        return self._step("record", (note, who), super().record, entries)
 
-    def apply(self, journal: Text, *, note: Optional[str] = None) -> int:
-        """As `Index.apply`: each change has a row of its own."""
-        return self._step(note, super().apply, journal)
+    def apply(self, journal: Text, *, note: Optional[str] = None, who: Optional[str] = None) -> int:
+        """As `Index.apply`: each change has a step of its own."""
+        given = bytes_of(journal)
+        return self._step("apply", (note, who), super().apply, given, room=max(1, given.count(b"change")))
 
-    def line(self, text: Text, *, note: Optional[str] = None) -> str:
+    def line(self, text: Text, *, note: Optional[str] = None, who: Optional[str] = None) -> str:
         """As `Index.line`, but in a group a line "undo" takes back what was done in it, and raises no RuntimeError. Raises NotKept too."""
         given = bytes_of(text)
-        steps: dict[str, Callable[[], Optional[int]]] = {"undo": self.undo, "redo": self.redo, "forget": self.forget}
-        step = steps.get(given.decode("utf-8", "surrogateescape").strip(_SPACES))
+        words = given.decode("utf-8", "surrogateescape").strip(_SPACES)
+        steps: dict[str, Callable[..., Optional[int]]] = {"undo": self.undo, "redo": self.redo, "forget": self.forget}
+        step = steps.get(words)
         if step is None:
-            return super().line(given) if is_still(given) else self._step(note, super().line, given)
+            found = self._still_line(given)
+            if found is not None:
+                return found
+            kind, *rest = words.split() or ["line"]
+            of = self._reverted(kind, rest)
+            return self._step(_KINDS.get(kind, "line"), (note, who), partial(self._line, of), given, of=of)
         try:
-            return f"ok {step() or 0}\n"
+            return f"ok {step(note=note, who=who) or 0}\n"
         except (NothingToUndo, NothingToRedo) as refusal:
             return f"no {type(refusal).__name__}\n"
 
+    def _reverted(self, kind: str, rest: list[str]) -> Optional[int]:
+        """The step whose change a line takes back."""
+        return self._id_at(int(rest[0])) if kind == "revert" and len(rest) == 1 and rest[0].isdecimal() else None
+
+    def _line(self, of: Optional[int], given: bytes) -> str:
+        """Carries out a line. If it takes back the change of a step, that may have another number by now, or none."""
+        return super().line(given if of is None else b"revert %d" % (self._place_of(of) or MOST_U32))
+
     # Steps.
 
-    def group(self, *, note: Optional[str] = None) -> Group:
-        """As `Index.group`: the file keeps it as one change, with this note and no other, or not at all. Other threads' steps wait until it
-        ends. Those of another task of asyncio on the same thread can't wait, so they raise RuntimeError, unless the group began in no task.
-        In it `redo` does again only what was undone in it. Raises NotKept too; then all is undone. What a group did that failed can't be
-        redone, unlike in `Index.group`; what could be redone before it still can."""
-        return Group(self, note)
+    def group(self, *, note: Optional[str] = None, who: Optional[str] = None) -> Group:
+        """As `Index.group`: the file keeps it as one step, with this note and no other, or not at all. Other threads' steps wait until it
+        ends; until then they and other tasks of asyncio see what was held before it, of which it makes a copy, O(p) as `copy`. Steps of
+        another task on the same thread can't wait, so they raise RuntimeError, unless the group began in no task. In it `redo` does again
+        only what was undone in it. Raises NotKept and OutOfMemory too; then all is undone. What a group did that failed can't be redone,
+        unlike in `Index.group`; what could be redone before it still can."""
+        return Group(self, note, who)
+
+    def transaction(self, *, note: Optional[str] = None, who: Optional[str] = None) -> Transaction:
+        """A group whose `with` gives SQLite's connection, for tables of your own: what you write to them and the group's step are both in
+        the file, or neither. Nobody else writes to the file until it ends. The connection refuses to end the transaction, to attach files,
+        and to change tables whose names begin with `s2ix_`; give it up when the `with` ends. If the `with` ends with an exception, or the
+        file refuses it, what you wrote is gone too. It begins in no group, and costs and raises what `group` does.
+
+        >>> import os, tempfile
+        >>> with Durable(os.path.join(tempfile.mkdtemp(), "zones.db")) as zones:
+        ...     with zones.transaction(note="opened", who="ann") as connection:
+        ...         connection.execute("CREATE TABLE shop (label INTEGER, name TEXT)") and None
+        ...         connection.execute("INSERT INTO shop VALUES (9, 'Baker')") and None
+        ...         zones.add("04", 9)
+        ...     [(each.kind, each.who) for each in zones.log()]
+        1
+        [('group', 'ann')]
+        """
+        return Transaction(self, note, who)
+
+    def _connection(self) -> sqlite3.Connection:
+        return self._file.lent()
 
     def _begin(self, group: OpenGroup) -> None:
-        group.note = _note_of(group.note)
+        words = self._whose(group.note, group.who)
+        group.note, group.who = words
         self._file.expect_writer()
         if not self._groups:
             self._has_edited, self._redoable = False, 0
-        super()._begin(group)
+            self._make_room(max(1, self._file.noted.state.changes // 4), words)
+        elif group.is_lent:
+            raise RuntimeError("a transaction begins in no group")
+        try:
+            if group.is_lent:
+                self._file.lend()
+            super()._begin(group)
+        except BaseException:
+            if group.is_lent:
+                self._file.take_back()
+            raise
 
     def _end(self, group: OpenGroup, is_kept: bool) -> bool:
         within = self._within(group)
@@ -416,169 +374,218 @@ class Durable(Steps):
     def _keep_group(self, group: OpenGroup, is_kept: bool) -> None:
         if is_kept:
             self._join_from(group.first)
-            self._keep(group.note, self._has_edited)
+            self._keep(Edit("group", Words(group.note, group.who), None, 0, None), self._has_edited, group.is_lent)
             self._close_groups([group])
         else:
             self._restore_group(group)
 
     def _restore_group(self, group: OpenGroup) -> None:
+        if group.is_lent:
+            self._file.take_back()
         self._restore(True)
         self._close_groups([group])
 
     def _take_back(self, first: int) -> None:
-        before = super().done_count()
+        before = self._done()
         super()._take_back(first)
         self._redoable += before - first
 
-    def undo(self) -> int:
+    def undo(self, *, note: Optional[str] = None, who: Optional[str] = None) -> int:
         """As `Index.undo`. Raises NotKept too."""
-        return self._in_turn(self._undo)
+        return self._in_turn(self._undo, self._whose(note, who))
 
-    def _undo(self) -> int:
+    def _undo(self, words: Words) -> int:
         self._file.expect_writer()
         if not self._groups:
-            return self._whole(self._undo_and_keep, self._restore)
+            return self._whole(partial(self._undo_and_keep, words), self._restore)
         number = super().undo()
         self._redoable += 1
         return number
 
-    def _undo_and_keep(self) -> int:
-        last = len(self._standing)
-        change = self._standing[-1]._replace(journal=super().journal(last)) if last else None
+    def _undo_and_keep(self, words: Words) -> int:
+        noted = self._file.noted
+        change = self._last_change(noted.many) if noted.many else ""
         number = super().undo()
-        if change is not None:
-            self._put([(MARK, (1, change.id))], last - 1, [], [*self._undone, change])
+        last = noted.standing[noted.many - 1]
+        self._put("undo", words, [inverse_of(change)], noted.standing, noted.many - 1, [*noted.undone, (last, change)], of=last)
         return number
 
-    def redo(self) -> int:
+    def redo(self, *, note: Optional[str] = None, who: Optional[str] = None) -> int:
         """As `Index.redo`. Raises NotKept too."""
-        return self._in_turn(self._redo)
+        return self._in_turn(self._redo, self._whose(note, who))
 
-    def _redo(self) -> int:
+    def _redo(self, words: Words) -> int:
         self._file.expect_writer()
         if not self.undone_count():
             raise NothingToRedo
         if not self._groups:
-            return self._whole(self._redo_and_keep, self._restore)
+            return self._whole(partial(self._redo_and_keep, words), self._restore)
         number = super().redo()
         self._redoable -= 1
         return number
 
-    def _redo_and_keep(self) -> int:
-        number, change, last = super().redo(), self._undone[-1], len(self._standing)
-        self._put([(MARK, (0, change.id))], last, [change], self._undone[:-1])
+    def _redo_and_keep(self, words: Words) -> int:
+        noted, number = self._file.noted, super().redo()
+        last, change = noted.undone[-1]
+        noted.standing[noted.many :] = [last]
+        self._put("redo", words, [change], noted.standing, noted.many + 1, noted.undone[:-1], of=last)
         return number
 
     def undone_count(self) -> int:
         """How many changes can be redone. Raises Closed."""
-        super().done_count()
-        return self._redoable if self._groups else len(self._undone)
+        self._done()
+        if self._seen() is not self:
+            return self._undone_before
+        return self._redoable if self._groups else len(self._file.noted.undone)
 
-    def join(self, last: int, *, note: Optional[str] = None) -> int:
-        """As `Index.join`. The change that it makes has an id of its own, and what can be redone gets new ids. Raises NotKept too."""
-        return self._in_turn(self._join, operator.index(last), _note_of(note))
+    def join(self, last: int, *, note: Optional[str] = None, who: Optional[str] = None) -> int:
+        """As `Index.join`. The change that it makes has the id of this step. Raises NotKept too."""
+        return self._in_turn(self._join, operator.index(last), self._whose(note, who))
 
-    def _join(self, last: int, note: Optional[str]) -> int:
+    def _join(self, last: int, words: Words) -> int:
         self._file.expect_writer()
-        done = len(self._standing)
+        done = self._file.noted.many
         if self._groups or not 1 < last <= done:
             return super().join(last)
-        parts = super().journal(done - last + 1)
-        return self._whole(partial(self._join_and_keep, last, note), partial(self._part, done, done - last, parts))
+        parts = Index.journal(self, done - last + 1)
+        return self._whole(partial(self._join_and_keep, last, words), partial(self._part, done, done - last, parts))
 
-    def _join_and_keep(self, last: int, note: Optional[str]) -> int:
-        keep, number = len(self._standing) - last, super().join(last)
-        self._keep_joined(keep, number > 0, note)
+    def _join_and_keep(self, last: int, words: Words) -> int:
+        noted, number = self._file.noted, super().join(last)
+        keep = noted.many - last
+        joined = [noted.state.last + 1] if number else []
+        change = self._last_change(keep + 1) if number else None
+        self._put(
+            "join", words, [change], [*noted.standing[:keep], *joined], keep + len(joined), noted.undone, of=noted.standing[keep]
+        )
         return number
 
     def _part(self, done: int, keep: int, parts: str, is_again: bool) -> None:
         """Takes back a join in memory, unless the file has it: the changes from a place on come from their journal."""
-        if self._is_open() and super().done_count() < done == len(self._standing):
+        if self._is_open() and self._done() < done == self._file.noted.many:
             is_again = True
-            while super().done_count() > keep:
+            while self._done() > keep:
                 super().undo()
             super().apply(parts)
         self._restore(is_again)
 
-    def _keep_joined(self, keep: int, is_some: bool, note: Optional[str]) -> None:
-        """Keeps a change in place of those from a place on, or nothing. What can be redone gets new ids, after that of the change."""
-        time = datetime.now(timezone.utc).isoformat(timespec="microseconds")
-        last, many = self._file.state.last, int(is_some)
-        new = [(last + 1, time, note, super().journal(keep + 1))] if is_some else []
-        later = [(last + 2 + place, *change.row()[1:]) for place, change in enumerate(reversed(self._undone))]
-        made = chained([*new, *later], self._seal_after(keep))
-        writes: list[Write] = [(DROP_LATER, (self._standing[keep - 1].id if keep else -1,))]
-        writes += [(INSERT, change.values(place >= many)) for place, change in enumerate(made)]
-        self._put(writes, keep, made[:many], made[many:][::-1], last + 1 + len(later))
+    # What is forgotten, and the whole file.
 
-    def forget(self) -> None:
-        """As `Index.forget`: a dump takes the place of all changes in the file. O(n) for n pairs. Raises NotKept too."""
-        self._in_turn(self._forget)
+    def forget(self, *, note: Optional[str] = None, who: Optional[str] = None) -> None:
+        """As `Index.forget`: the log stays. Raises NotKept too."""
+        self._in_turn(self._forget, self._whose(note, who))
 
-    def _forget(self) -> None:
-        self._start_from(self.dump(), len(self._standing), [], super().forget)
+    def _forget(self, words: Words, dump: Optional[str] = None) -> None:
+        self._drop("forget", words, [], [], super().forget, dump=dump)
 
-    def forget_older(self, newest: int) -> None:
-        """As `Index.forget_older`: the newest changes keep their ids, and a dump takes the place of the others. O(n + m log n) for n pairs
-        and m entries of the changes that stay. Raises NotKept too."""
-        self._in_turn(self._forget_older, check_natural(min(newest, MOST_U32), MOST_U32, TooFewChanges, "newest"))
+    def forget_older(self, newest: int, *, note: Optional[str] = None, who: Optional[str] = None) -> None:
+        """As `Index.forget_older`: the log stays. Raises NotKept too."""
+        most = check_natural(min(newest, MOST_U32), MOST_U32, TooFewChanges, "newest")
+        self._in_turn(self._forget_but, most, self._whose(note, who))
 
-    def _forget_older(self, newest: int) -> None:
-        done = super().done_count()
-        if newest < done:
-            before = Index.rewind(self.dump(), super().journal(done - newest + 1)).dump()
-            self._start_from(before, done - newest, self._undone, partial(super().forget_older, newest))
+    def _forget_but(self, newest: int, words: Words) -> None:
+        self._done()
+        noted = self._file.noted
+        if newest < noted.many:
+            keep = noted.standing[noted.many - newest : noted.many]
+            of = noted.standing[noted.many - newest - 1]
+            self._drop("forget_older", words, keep, noted.undone, partial(super().forget_older, newest), of=of)
 
-    def clear(self) -> None:
-        """As `Index.clear`: the file holds the empty index. Raises NotKept too."""
-        self._in_turn(self._clear)
+    def clear(self, *, note: Optional[str] = None, who: Optional[str] = None) -> None:
+        """As `Index.clear`: the log stays, and has the pairs that were held. Raises NotKept too."""
+        self._in_turn(self._clear, self._whose(note, who))
 
-    def _clear(self) -> None:
-        super().done_count()
-        self._start_from(EMPTY, len(self._standing), [], super().clear)
+    def _clear(self, words: Words) -> None:
+        held = Index.dump(self).splitlines()[1:-1]
+        change = "".join([f"change {len(held)}\n", *(f"{line} 0\n" for line in held)]) if held else None
+        self._drop("clear", words, [], [], super().clear, change=change, dump=EMPTY)
 
-    def compact(self) -> None:
-        """Forgets all changes, and makes the file as small as it can be. Raises NotKept, and sqlite3.Error if the file, or what SQLite keeps
-        beside it, stays as large: then all else is done."""
-        self._in_turn(self._compact)
-
-    def _compact(self) -> None:
-        self._forget()
-        self._file.compact()
-
-    def backup(self, path: Union[str, os.PathLike[str]]) -> None:
-        """Copies the file to another path, whole and as it is now: between two steps, and before a group that has not ended. Others may go on.
-        At the path there must be no file, and none is there if it fails. O(n) for n bytes. Raises Closed, FileExistsError, OSError,
-        sqlite3.Error, and RuntimeError within a step."""
-        self._in_turn(self._backup, os.fsdecode(path), is_of_a_task=False)
-
-    def _backup(self, path: str) -> None:
-        super().done_count()
-        self._file.backup(path)
-
-    def _start_from(self, dump: str, drop: int, undone: list[Change], forget: Callable[[], None]) -> None:
-        """Puts a dump in place of the oldest changes in the file, so many, and keeps these of the undone ones. Then it does the same in
-        memory, and if that can't be done, the index is closed."""
+    def _drop(
+        self, kind: str, words: Words, standing: list[int], undone: list[Undone], forget: Callable[[], None], *,
+        of: Optional[int] = None, change: Optional[str] = None, dump: Optional[str] = None,
+    ) -> None:
+        """Keeps a step after which others can be undone and redone. Then it makes it in memory, and if that can't be done, memory comes
+        anew from the file, or the index is closed."""
         self._file.expect_writer()
         self._expect_no_group()
-        start = self._file.state.start
-        writes: list[Write] = [(DROP_OLDER, (self._standing[drop - 1].id,))] if drop else []
-        if not undone:
-            writes += [(DROP_UNDONE, ())]
+        version = self._file.noted.state.version
 
         def make() -> None:
-            self._put(writes, 0, self._standing[drop:], undone, dump=dump, dropped=drop)
+            self._put(kind, words, [change], standing, len(standing), undone, of=of, dump=dump)
             forget()
 
         def restore(_: bool) -> None:
-            # (what memory has then is read again from the file)
-            if self._file.state.start != start:
-                self._file.state = State()
+            if self._file.noted.state.version != version:
+                self._file.noted = Noted()
                 self._is_in_doubt = True
 
         self._whole(make, restore)
+
+    def compact(self, *, before: Optional[Moment] = None, note: Optional[str] = None, who: Optional[str] = None) -> None:
+        """Forgets all changes, and makes the file as small as it can be; the log stays. With `before`, a step's id or a datetime with its
+        zone, it forgets only what was done before that, and takes those steps from the log, which says so: then `as_of` and `entries` don't
+        reach to them. O(n) for n bytes. Raises NotKept, and sqlite3.Error if the file, or what SQLite keeps beside it, stays as large: then
+        all else is done."""
+        self._in_turn(self._compact, asked_for(before), self._whose(note, who))
+
+    def _compact(self, before: Union[int, datetime, None], words: Words) -> None:
+        self._file.expect_writer()
+        self._expect_no_group()
+        if before is None:
+            # (a file that is small opens soon)
+            self._forget(words, Index.dump(self))
+        else:
+            self._shorten(before, words)
+        self._file.compact()
+
+    def _shorten(self, before: Union[int, datetime], words: Words) -> None:
+        """Takes the steps before a moment from the log."""
+        cut = self._file.reading(lambda book: cut_at(book, before))
+        if cut is None:
+            return
+        noted, last = self._file.noted, cut.step
+        many = next((place for place in range(noted.many, 0, -1) if noted.standing[place - 1] <= last), 0)
+        self._forget_but(noted.many - many, words)
+        noted = self._file.noted
+        undone, writes = undone_after(noted.undone, last), shortening_writes(cut)
+        put = partial(self._put, "compact", words, [None], noted.standing, noted.many, undone, of=last, dump=Index.dump(self), more=writes)
+        self._whole(put, lambda _: None)
+
+    def backup(self, path: Union[str, os.PathLike[str]]) -> None:
+        """Copies the file to another path, whole and as it is now: between two steps, and before a group that has not ended. Others may go
+        on. At the path there must be no file, and none is there if it fails. O(n) for n bytes. Raises Closed, FileExistsError, OSError,
+        sqlite3.Error, and RuntimeError within a step or a transaction."""
+        self._in_turn(self._backup, os.fsdecode(path), is_of_a_task=False)
+
+    def _backup(self, path: str) -> None:
+        self._done()
+        self._file.backup(path)
 
     @classmethod
     def _opened(cls, *limits: int) -> Index:
         # (what is loaded or copied is in memory alone)
         return Index(*limits)
+
+
+def _expect_one_of(name: str, given: str, *words: str) -> None:
+    if given not in words:
+        raise ValueError(f"{name} is {' or '.join(words)}, not {given!r}")
+
+
+def _limits_of(asked: tuple[Optional[int], Optional[int], Optional[int]]) -> Limits:
+    """The limits of a new file, the widest in place of None."""
+    widest = 1_000_000, MOST_U32, 100_000
+    pairs, copies, changes = (most if limit is None else int(operator.index(limit)) for limit, most in zip(asked, widest))
+    return pairs, copies, changes
+
+
+def _expect_limits(asked: tuple[Optional[int], ...], found: Limits) -> None:
+    """Raises NoLimits unless a file has the limits that are asked for."""
+    if any(limit is not None and limit != other for limit, other in zip(asked, found)):
+        raise NoLimits(f"the file has other limits: {found}")
+
+
+def _label_of(label: int) -> Optional[int]:
+    """A label whose note may be kept."""
+    number = operator.index(label)
+    return number if 0 <= number <= MOST_LABEL else None

@@ -11,9 +11,10 @@ from s2ix.given import (
     wrong_cell, wrong_entry, wrong_row,
 )
 from s2ix.refusals import (
-    REFUSALS, Mismatch, NoCell, NoDifference, NoLabel, NoSuchChange, NotHeld, S2ixError, TooFine, TooManyCopies, Unsorted, expect, expect_at,
+    REFUSALS, BelowZero, Mismatch, NoCell, NoChange, NoDifference, NoLabel, NoSuchChange, NoSuchLabel, NotHeld, S2ixError, TooFine,
+    TooManyCopies, Unsorted, expect, expect_at,
 )
-from s2ix.rows import PACKED, rows_of
+from s2ix.rows import ENTRY, PACKED, Entry, entries_of, rows_of
 from s2ix.tokens import Cell, no_cell
 from s2ix.unions import normalise
 
@@ -104,24 +105,30 @@ class Edits(Calls):
         except NoCell:
             raise wrong_cell((start, many)) from None
 
-    def drop_label(self, label: int) -> int:
-        """Takes away all copies of a label's pairs; returns how many pairs there were. Raises NoLabel, NoSuchLabel, and what each edit may.
+    def drop_label(self, label: int, *, same_ok: bool = False) -> int:
+        """Takes away all copies of a label's pairs; returns how many pairs there were. Raises NoLabel, NoSuchLabel (or returns 0 with
+        `same_ok`), and what each edit may.
 
         >>> from s2ix import Index
         >>> index = Index()
-        >>> index.add_union(["04", "0c"], 9), index.drop_label(9), len(index)
-        (2, 2, 0)
+        >>> index.add_union(["04", "0c"], 9), index.drop_label(9), index.drop_label(9, same_ok=True), len(index)
+        (2, 2, 0, 0)
         """
         label = check(label, MOST_U32, NoLabel)
-        return self._edited(self._number_of, self._calls.s2ix_drop_label, label)
+        try:
+            return self._edited(self._number_of, self._calls.s2ix_drop_label, label)
+        except NoSuchLabel:
+            if not same_ok:
+                raise
+            return 0
 
-    def set_label(self, label: int, cells: Cells) -> int:
+    def set_label(self, label: int, cells: Cells, *, same_ok: bool = False) -> int:
         """Makes one copy of each cell of the normal form of a union all that a label has, as one change; returns how many pairs changed. So
         it drops what the label has elsewhere, and a pair of several copies keeps one. Without cells it is `drop_label`. O(n + m log m) for
         all n pairs that are held and m cells that the label has or gets, each of which takes some 2 µs. It reads the label, and then edits:
         if another thread changes one of the pairs between, it raises Mismatch, and nothing has changed. Raises NoLabel, NoCell with the
         first number that is no cell's and its place, NoSuchLabel without cells, and what each edit may, as NoChange if the label has just
-        these.
+        these. With `same_ok` it returns 0 in place of NoChange and NoSuchLabel.
 
         >>> from s2ix import Index
         >>> index = Index()
@@ -130,11 +137,46 @@ class Edits(Calls):
         """
         label, wanted = check(label, MOST_LABEL, NoLabel), dict.fromkeys(normalise(cells), 1)
         if not wanted:
-            return Edits.drop_label(self, label)
+            return Edits.drop_label(self, label, same_ok=same_ok)
         # (an edit of another pair of the label between comes as if it followed)
-        held = {row.cell: row.count for row in self._listed(self._calls.s2ix_of_label, PACKED, rows_of, label)}
-        changed = sorted(cell for cell in {*held, *wanted} if held.get(cell) != wanted.get(cell))
+        try:
+            return self._give_label(label, self._counts_of(label), wanted)
+        except NoChange:
+            if not same_ok:
+                raise
+            return 0
+
+    def _counts_of(self, label: int) -> dict[int, int]:
+        """The count of each cell of a label."""
+        return {row.cell: row.count for row in self._listed(self._calls.s2ix_of_label, PACKED, rows_of, label)}
+
+    def _give_label(self, label: int, held: dict[int, int], wanted: dict[int, int]) -> int:
+        """Makes one change of what leads from the cells that a label has to others."""
+        changed = sorted(cell for cell in {*held, *wanted} if held.get(cell, 0) != wanted.get(cell, 0))
         return Edits.record(self, [(cell, label, held.get(cell, 0), wanted.get(cell, 0)) for cell in changed])
+
+    def restore(self, label: int, before: int) -> int:
+        """Gives a label the cells and counts that it had before a change that can be undone, as one new change, whatever came later;
+        returns how many pairs changed. Changes are numbered as for `revert`. It reads the label and the changes, and then edits: see
+        `set_label`. O(n + m) for n pairs and m entries of the changes from that one on. Raises NoLabel, NoSuchChange, and what each edit
+        may, as NoChange if the label is as it was.
+
+        >>> from s2ix import Index
+        >>> index = Index()
+        >>> index.set_label(9, ["04"]), index.set_label(9, ["0c", "14"]), index.add("04", 9), index.restore(9, before=2)
+        (1, 3, 1, 2)
+        >>> [hex(cell) for cell in index.region(9)]
+        ['0x400000000000000']
+        """
+        label, before = check(label, MOST_LABEL, NoLabel), check(before, MOST_U32, NoSuchChange)
+        held = self._counts_of(label)
+        wanted = dict(held)
+        for number in range(max(before, self._number_of(self._calls.s2ix_done_count)), before - 1, -1):
+            wanted.update((each.cell, each.before) for each in self._entries_of(number) if each.label == label)
+        return self._give_label(label, held, wanted)
+
+    def _entries_of(self, number: int) -> list[Entry]:
+        return self._listed(self._calls.s2ix_change, ENTRY, entries_of, number)
 
     def relabel(self, source: int, target: int) -> int:
         """Moves all copies of one label to another, cell by cell, and adds them to what that has; returns how many pairs changed, those of
@@ -177,7 +219,9 @@ class Edits(Calls):
 
     def revert(self, change: int) -> int:
         """Takes back a change and leaves those that followed it; returns how many pairs changed. The changes that can be undone are
-        numbered, the oldest as 1. This is a change of its own. Raises NoSuchChange, BelowZero, and what each edit may.
+        numbered, the oldest as 1. This is a change of its own. Raises NoSuchChange, and what each edit may; and BelowZero if a later change
+        took copies that it had added: `cell` and `label` are the first pair, and `later` is the number of that change. `restore` gives a
+        label what it had, whatever came later.
 
         >>> from s2ix import Index
         >>> index = Index()
@@ -185,7 +229,24 @@ class Edits(Calls):
         (1, 1, 1, [3], 3)
         """
         change = check(change, MOST_U32, NoSuchChange)
-        return self._edited(self._number_of, self._calls.s2ix_revert, change)
+        try:
+            return self._edited(self._number_of, self._calls.s2ix_revert, change)
+        except BelowZero:
+            raise self._below_zero(change) from None
+
+    def _below_zero(self, change: int) -> BelowZero:
+        """Why a change can't be taken back: the first pair of too few copies, and the later change that took them."""
+        for cell, label, before, after in self._entries_of(change):
+            if after - before > self._counts_of(label).get(cell, 0):
+                break
+        else:
+            # (another thread has edited since)
+            return BelowZero()
+        for number in range(self._number_of(self._calls.s2ix_done_count), change, -1):
+            for each in self._entries_of(number):
+                if each[:2] == (cell, label) and each.before >= after - before > each.after:
+                    return BelowZero(cell, label, change, number)
+        return BelowZero()
 
     def record(self, entries: Entries) -> int:
         """Does a change that is given by its entries, as `change` and `difference` list them: by rising cell, then label. All are done, or
@@ -205,8 +266,8 @@ class Edits(Calls):
     def apply(self, journal: Text) -> int:
         """Does the changes of a journal, which another index did from the same pairs on: all, or none. Each can be undone by itself.
         Returns how many pairs have another count than before. O(b + m log n) for b bytes and m entries, besides the time of an edit. What
-        is refused first is raised: NoJournal, whose `line` is the faulty one; JournalFull; or Mismatch, TooManyCopies or TooManyPairs, whose
-        `change` is the refused one, counted from 1; and Closed or OutOfMemory.
+        is refused first is raised: NoJournal, whose `line` is the faulty one; JournalFull; or Mismatch, TooManyCopies or TooManyPairs,
+        whose `change` is the refused one, counted from 1; and Closed or OutOfMemory.
 
         >>> from s2ix import Index
         >>> index, other = Index(), Index()

@@ -2,7 +2,7 @@
 from __future__ import annotations
 
 import importlib
-from typing import Any, Hashable, Mapping, Optional, Union
+from typing import Any, Hashable, Mapping, Optional, Protocol, Union, runtime_checkable
 
 from s2ix.given import cells_copied
 from s2ix.index import Index
@@ -12,9 +12,18 @@ from s2ix.refusals import NoCell, S2ixError, named, placed
 Names = Union[Mapping[int, Any], Any]
 
 
+@runtime_checkable
+class Zones(Protocol):
+    """What joins points by itself, and has ids for its labels, as zones of `s2ix_places` do."""
+
+    def ids(self, labels: Any) -> list[str]: ...
+
+    def join(self, points: Any, *, zone: Hashable, how: str, threads: int) -> Any: ...
+
+
 def join(
-    points: Any, index: Index, leaf: Hashable = "leaf", label: Hashable = "label", how: str = "inner", names: Optional[Names] = None,
-    threads: int = 1,
+    points: Any, index: Union[Index, Zones], leaf: Hashable = "leaf", label: Hashable = "label", how: str = "inner",
+    names: Optional[Names] = None, threads: int = 1,
 ) -> Any:
     """The points of a DataFrame with the labels over them: a row for each point and each pair over it, in the order of the points, and for
     one point as `Index.at` has them, the innermost cell first. The labels are a new last column. A label comes twice if the point is in two
@@ -23,7 +32,8 @@ def join(
     It is a merge of the column `leaf` with a frame whose index has the leaves, `points.merge(answers, left_on=leaf, right_index=True)`: all
     columns are kept, and the index is, each value as often as its point. `how="inner"` drops the points without a label, `how="left"` keeps
     them, with a label that is missing. So the column of labels is of the dtype "uint32", or, if `how` is "left", of the nullable "UInt32".
-    With `names` it has the names of labels; a label without one gets a missing value, as by `Series.map`.
+    With `names` it has the names of labels; a label without one gets a missing value, as by `Series.map`. Zones of `s2ix_places` in place
+    of an index need no leaves, and give ids in a column `zone`: this is their `join`.
 
     Leaves are 64-bit integers with or without sign, nullable ones of pandas, categories of these, or Python's ints and tokens in a column
     of objects. A missing leaf is in no zone; if all are missing, the column may have any dtype. Floats are a TypeError, since they don't
@@ -40,6 +50,8 @@ def join(
         # 0       1  288230376151711745  Alfama
         # 1       2  864691128455135233  Alfama
     """
+    if isinstance(index, Zones):
+        return index.join(points, zone="zone" if label == "label" else label, how=how, threads=threads)
     if not isinstance(index, Index):
         raise TypeError(f"points are joined with an Index, not {type(index).__name__}: clusters.join takes dumps")
     expect_columns(points, leaf, label, how)

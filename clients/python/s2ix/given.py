@@ -22,13 +22,13 @@ Cells = Union[Cell, Iterable[Cell], memoryview, "array[int]"]
 Targets = Union[Iterable[Cells], memoryview, "array[int]"]
 #: From one of these places up to the next the cells of each target lie, if those of all targets lie in one row.
 Bounds = Union[Iterable[int], memoryview, "array[int]"]
-#: Rows to add or to remove, each a cell, a label and copies. A writable memoryview of packed rows is passed on as it lies. An array of NumPy
-#: may have the fields cell, label and count in any order, and others.
+#: Rows to add or to remove, each a cell, a label and copies. A writable memoryview of packed rows is passed on as it lies. An array of
+#: NumPy may have the fields cell, label and count in any order, and others.
 Rows = Union[Iterable["tuple[Cell, int, int]"], memoryview]
 #: The entries of a change, each a cell, a label and the counts before and after: by rising cell, then label.
 Entries = Iterable["tuple[Cell, int, int, int]"]
 
-MOST_U8, MOST_U32, MOST_U64 = 255, 4_294_967_295, 18_446_744_073_709_551_615
+MOST_U8, MOST_U32, MOST_U63, MOST_U64 = 255, 4_294_967_295, 9_223_372_036_854_775_807, 18_446_744_073_709_551_615
 MOST_LABEL = 2_147_483_647
 _WORD = 8
 _row, _entry = struct.Struct("=QII"), struct.Struct("=QIII4x")

@@ -6,7 +6,7 @@ import threading
 import weakref
 from contextlib import ContextDecorator
 from functools import partial
-from typing import TYPE_CHECKING, Callable, Optional
+from typing import TYPE_CHECKING, Callable, Optional, TypeVar
 
 if TYPE_CHECKING:
     from s2ix.index import Index
@@ -34,13 +34,14 @@ def _task() -> Optional[object]:
 
 
 class OpenGroup:
-    """A group that has begun: where, how many changes could be undone then, and the note for its change."""
+    """A group that has begun: where, how many changes could be undone then, the note for its change, who makes it, and whether its caller
+    writes to tables of its own."""
 
-    __slots__ = ("first", "note", "_thread", "_task", "_held", "_ended")
+    __slots__ = ("first", "note", "who", "is_lent", "_thread", "_task", "_held", "_ended")
 
-    def __init__(self, note: Optional[str], held: object, dropped: Callable[[object], None]) -> None:
+    def __init__(self, words: tuple[Optional[str], Optional[str]], is_lent: bool, held: object, dropped: Callable[[object], None]) -> None:
         """What is held is what keeps the group open. When it is gone, `dropped` is called, unless the group has ended."""
-        self.first, self.note = 0, note
+        self.first, (self.note, self.who), self.is_lent = 0, words, is_lent
         self._thread, self._task = _HERE.thread, _task()
         self._held: Optional[weakref.ref[object]] = weakref.ref(held, dropped)
         self._ended = threading.Lock()
@@ -74,31 +75,33 @@ class _Exit:
     interrupt comes before the first line of that end, the index learns of it: what the `with` kept is gone. (It is no method of Python,
     since a call of one drops it at once.)"""
 
-    def __get__(self, group: Optional[Group], _: Optional[type[Group]] = None) -> Callable[..., None]:
+    def __get__(self, group: Optional[Block], _: Optional[type[Block]] = None) -> Callable[..., None]:
         if group is None:
-            return Group._leave
-        held = partial(Group._leave, group)
+            return Block._leave
+        held = partial(Block._leave, group)
         group._held = weakref.ref(held)
         return held
 
 
-class Group(ContextDecorator):
-    """A group of edits, for one `with`: see `Index.group`."""
+class Block(ContextDecorator):
+    """What one `with` holds of a group."""
 
-    def __init__(self, index: Index, note: Optional[str] = None) -> None:
-        self._index, self._note = index, note
+    _is_lent = False
+
+    def __init__(self, index: Index, note: Optional[str] = None, who: Optional[str] = None) -> None:
+        self._index, self._words = index, (note, who)
         self._open: Optional[OpenGroup] = None
         self._held: Callable[[], object] = weakref.ref(self)
 
-    def _recreate_cm(self) -> Group:
+    def _recreate_cm(self: _Some) -> _Some:
         """A group for a call of the function that it decorates."""
-        return Group(self._index, self._note)
+        return type(self)(self._index, *self._words)
 
-    def __enter__(self) -> None:
+    def _enter(self) -> None:
         if self._open is not None:
             raise RuntimeError("a group is for one `with`: ask the index for another")
         # (no variable here knows what is held, since what is raised knows the frames that know it)
-        self._open = OpenGroup(self._note, self._held() or self, self._index._end_dropped)
+        self._open = OpenGroup(self._words, self._is_lent, self._held() or self, self._index._end_dropped)
         self._index._begin_group(self._open)
 
     __exit__ = _Exit()
@@ -110,3 +113,13 @@ class Group(ContextDecorator):
         is_of_another = not self._open.is_of_this_task()
         if self._index._end_group(self._open, kind is None and not is_of_another) and kind is None and is_of_another:
             raise RuntimeError("a group ends on the thread and in the task that it began in, so all that was done in it is undone")
+
+
+_Some = TypeVar("_Some", bound=Block)
+
+
+class Group(Block):
+    """A group of edits, for one `with`: see `Index.group`."""
+
+    def __enter__(self) -> None:
+        self._enter()

@@ -39,12 +39,12 @@ class Index(Edits):
 
     Close an index by `close`, or use it in a `with`.
 
-    Threads may share an index. Each call but `set_label` answers as if it were alone: it writes only to memory of its own, and waits while
-    another call on the index runs, but not for `at_each` and its like, which work on a copy. A finalizer or a signal handler may call too. An edit of
-    another thread may come between two calls: hold your own lock over calls that belong together. `undo` takes the last change back,
-    whichever thread made it. Only one thread at a time may use an iterator. It reads page by page: if an edit came after its first page, even a refused one, the next page raises RuntimeError.
-    While a call runs, don't change the array or the memory that you gave it. In the forked child of a process with threads, use no index of
-    the parent.
+    Threads may share an index. Each call but `set_label` and `restore` answers as if it were alone: it writes only to memory of its own,
+    and waits while another call on the index runs, but not for `at_each` and its like, which work on a copy. A finalizer or a signal
+    handler may call too. An edit of another thread may come between two calls: hold your own lock over calls that belong together. `undo`
+    takes the last change back, whichever thread made it. Only one thread at a time may use an iterator. It reads page by page: if an edit
+    came after its first page, even a refused one, the next page raises RuntimeError. While a call runs, don't change the array or the
+    memory that you gave it. In the forked child of a process with threads, use no index of the parent.
 
     >>> with Index() as index:
     ...     index.add_union(["04", "0c"], 9)
@@ -129,14 +129,17 @@ class Index(Edits):
     @classmethod
     def _led(cls, call: str, dump: Text, journal: Text, *limits: int) -> Index:
         """The index that a call of two texts opens."""
-        first, second = bytes_of(dump), bytes_of(journal)
-        limits = tuple(check(limit, MOST_U32, NoLimits) for limit in limits)
-        index, place, entry = cls._opened(*limits), ctypes.c_size_t(), ctypes.c_size_t()
-        status = getattr(index._calls, call)(
-            index._at_handle, first, len(first), second, len(second), *limits, addressof(place), addressof(entry)
-        )
-        expect_at(status, place.value, entry.value)
+        first, second, limits = bytes_of(dump), bytes_of(journal), tuple(check(limit, MOST_U32, NoLimits) for limit in limits)
+        index = cls._opened(*limits)
+        index._lead(call, first, second, *limits)
         return index
+
+    def _lead(self, call: str, dump: bytes, journal: bytes, *limits: int) -> None:
+        """Puts the store that a call of two texts opens in place of this one's."""
+        place, entry = ctypes.c_size_t(), ctypes.c_size_t()
+        given = dump, len(dump), journal, len(journal), *limits
+        status = getattr(self._calls, call)(self._at_handle, *given, addressof(place), addressof(entry))
+        expect_at(status, place.value, entry.value)
 
     def __enter__(self) -> Index:
         return self
@@ -200,7 +203,7 @@ class Index(Edits):
         return Group(self)
 
     def _begin_group(self, group: OpenGroup) -> None:
-        group.first = self.done_count()
+        group.first = self._done()
         self._groups.append(group)
 
     def _end_group(self, group: OpenGroup, is_kept: bool) -> bool:
@@ -245,7 +248,7 @@ class Index(Edits):
     def _join_from(self, first: int) -> None:
         """Makes one change of all but so many of the first."""
         # (another thread may edit or undo between)
-        while (many := self.done_count() - first) > 1:
+        while (many := self._done() - first) > 1:
             try:
                 self._edited(self._number_of, self._calls.s2ix_join, many)
             except TooFewChanges:
@@ -253,7 +256,7 @@ class Index(Edits):
 
     def _take_back(self, first: int) -> None:
         """Undoes all but so many of the first changes."""
-        while self.done_count() > first:
+        while self._done() > first:
             self._edited(self._number_of, self._calls.s2ix_undo)
 
     def join(self, last: int) -> int:
@@ -266,7 +269,7 @@ class Index(Edits):
         (1, 1, 2, 1, 2)
         """
         last = check(last, MOST_U64, TooFewChanges)
-        if self._groups and last > self.done_count() - self._groups[-1].first:
+        if self._groups and last > self._done() - self._groups[-1].first:
             raise TooFewChanges
         return self._edited(self._number_of, self._calls.s2ix_join, last)
 
@@ -277,7 +280,7 @@ class Index(Edits):
         >>> index.add("04", 9), index.undo(), len(index), index.redo(), len(index)
         (1, 1, 0, 1, 1)
         """
-        if self._groups and self.done_count() <= self._groups[-1].first:
+        if self._groups and self._done() <= self._groups[-1].first:
             raise NothingToUndo
         return self._edited(self._number_of, self._calls.s2ix_undo)
 
@@ -375,8 +378,8 @@ class Index(Edits):
         return rows_of_each(self, leaves, threads)
 
     def labels_at_each(self, leaves: Cells, threads: int = 1) -> tuple[Any, Any]:
-        """As `at_each`, but with labels in place of rows: how many there are over the leaves up to this one, and the labels of all leaves. A
-        label is repeated if a leaf lies in several cells of it.
+        """As `at_each`, but with labels in place of rows: how many there are over the leaves up to this one, and the labels of all leaves.
+        A label is repeated if a leaf lies in several cells of it.
 
         >>> index = Index()
         >>> index.add("1", 3), index.add("04", 9)
@@ -428,9 +431,9 @@ class Index(Edits):
         """What `meet` returns for each of many targets, as two arrays like those of `at_each`: the number of rows of the targets up to this
         one, and the rows of all, one target after the other.
 
-        A target is what `meet` takes, a cell or many, or an array of signed ones. In an array of 64-bit integers each cell is a target. With
-        `bounds`, the cells of all targets lie in one row, and target k has those from `bounds[k]` on and before `bounds[k + 1]`: there is
-        one bound more than there are targets, and the first is mostly 0. Cells after the last bound belong to no target. Arrays are then
+        A target is what `meet` takes, a cell or many, or an array of signed ones. In an array of 64-bit integers each cell is a target.
+        With `bounds`, the cells of all targets lie in one row, and target k has those from `bounds[k]` on and before `bounds[k + 1]`: there
+        is one bound more than there are targets, and the first is mostly 0. Cells after the last bound belong to no target. Arrays are then
         read as they lie, like leaves; targets without bounds are copied. Threads are as in `at_each`.
 
         It costs what `meet` does for each target, besides a copy for each thread. Raises as `at_each` does, but NoCell and NoSpan with the
@@ -503,6 +506,10 @@ class Index(Edits):
 
     def done_count(self) -> int:
         """How many changes can be undone. O(1). Raises Closed."""
+        return self._done()
+
+    def _done(self) -> int:
+        """The same, on whichever thread."""
         return self._number_of(self._calls.s2ix_done_count)
 
     def undone_count(self) -> int:
@@ -666,9 +673,9 @@ class Index(Edits):
         return self._listed(self._calls.s2ix_dump, 1, text_of)
 
     def journal(self, first: int = 1) -> str:
-        """The journal of the changes that can be undone, the oldest first, which `replay`, `rewind` and the program read: of all, or from the
-        one with the number `first` on, which is what an index needs for `apply` that has done those before it. If that is one more than the
-        last number, it is the journal of no changes. O(n) for n entries. Raises Closed, NoSuchChange or OutOfMemory.
+        """The journal of the changes that can be undone, the oldest first, which `replay`, `rewind` and the program read: of all, or from
+        the one with the number `first` on, which is what an index needs for `apply` that has done those before it. If that is one more than
+        the last number, it is the journal of no changes. O(n) for n entries. Raises Closed, NoSuchChange or OutOfMemory.
 
         >>> index = Index()
         >>> index.add("0c", 9), index.add("04", 9)

@@ -9,7 +9,8 @@ class S2ixError(Exception):
     """What each refusal of the index is. `status` is its number in C. `change` is the number of the refused change of a journal, or 0.
 
     `value` is the refused number or token, and `place` its place in the list that was passed, counted from 0. NoCell has a value if a
-    number or token is no cell's, and so has each refusal of a row. A refused entry has a place too. Without a value or a list they are None.
+    number or token is no cell's, and so has each refusal of a row. A refused entry has a place too. Without a value or a list they are
+    None.
 
     >>> from s2ix import NoCell, unions
     >>> try:
@@ -68,8 +69,32 @@ class Mismatch(S2ixError):
         self.change, self.entry, self.place = change, entry, place
 
 
+class BelowZero(S2ixError):
+    """a count would be below 0"""
+
+    status = 21
+    #: The first pair that has too few copies, and the number of the later change that took them. `step` is its id in a file. None if they
+    #: aren't known.
+    cell: Optional[int] = None
+    label: Optional[int] = None
+    later: Optional[int] = None
+    step: Optional[int] = None
+
+    def __init__(self, cell: int = 0, label: int = 0, change: int = 0, later: int = 0, steps: Optional[tuple[int, int]] = None) -> None:
+        """Without a cell it only has its name. `steps` are the ids of both changes in a file."""
+        if not cell:
+            super().__init__()
+            return
+        word, (first, last) = ("change", (change, later)) if steps is None else ("step", steps)
+        token = f"{cell:016x}".rstrip("0")
+        super().__init__(f"{self.__doc__}: {word} {last} took copies of {token} under {label} that {word} {first} had added")
+        self.cell, self.label, self.later, self.step = cell, label, later, None if steps is None else last
+
+
 #: The class of each status.
-REFUSALS: dict[int, type[S2ixError]] = {NoDump.status: NoDump, NoJournal.status: NoJournal, Mismatch.status: Mismatch}
+REFUSALS: dict[int, type[S2ixError]] = {
+    NoDump.status: NoDump, NoJournal.status: NoJournal, Mismatch.status: Mismatch, BelowZero.status: BelowZero
+}
 
 
 def _refusal(status: int, name: str, text: str) -> type[S2ixError]:
@@ -91,7 +116,6 @@ NoSuchLabel = _refusal(17, "NoSuchLabel", "no pair of the label is held")
 NotHeld = _refusal(18, "NotHeld", "too few copies are held")
 TooFine = _refusal(19, "TooFine", "the level is too fine")
 NoSuchChange = _refusal(20, "NoSuchChange", "no change has the number")
-BelowZero = _refusal(21, "BelowZero", "a count would be below 0")
 NoChange = _refusal(22, "NoChange", "nothing would change")
 TooManyCopies = _refusal(23, "TooManyCopies", "a count would pass the limit")
 TooManyPairs = _refusal(24, "TooManyPairs", "the number of pairs would pass the limit")

@@ -41,22 +41,24 @@ class Steps(Index):
 
     # A lock and what is done under it stand on one line: so an interrupt comes before the lock is taken, or in what is done, or after all.
 
-    def _in_turn(self, work: Callable[..., _Made], *given: Any, is_of_a_task: bool = True) -> _Made:
-        """Does some work beside which no other may run, after other threads' steps and groups."""
+    def _in_turn(self, work: Callable[..., _Made], *given: Any, is_of_a_task: bool = True, waits: bool = True) -> _Made:
+        """Does some work beside which no other may run, after other threads' steps, and their groups if it waits for these."""
         answers: list[_Made] = []
         while True:
-            with self._turn: group = self._tried(is_of_a_task, answers, work, given)
+            with self._turn: group = self._tried(is_of_a_task, waits, answers, work, given)
             if group is None:
                 return answers[0]
             group.wait()
 
-    def _tried(self, is_of_a_task: bool, answers: list[_Made], work: Callable[..., _Made], given: tuple[Any, ...]) -> Optional[OpenGroup]:
+    def _tried(
+        self, is_of_a_task: bool, waits: bool, answers: list[_Made], work: Callable[..., _Made], given: tuple[Any, ...]
+    ) -> Optional[OpenGroup]:
         """Does some work, and notes its answer; or returns the group of another thread whose end comes first."""
         self._expect_no_step()
         group = None
         if self._is_torn or self._groups:
             self._mend()
-            group = self._group_of_another(is_of_a_task)
+            group = self._group_of_another(is_of_a_task) if waits else None
         if group is None:
             with self._busy: answers.append(work(*given))
         return group
@@ -83,8 +85,8 @@ class Steps(Index):
             with self._busy: self._end(group, False)
 
     def _whole(self, make: Callable[[], _Made], restore: Callable[[bool], None]) -> _Made:
-        """Makes a step. If that raises, `restore` takes it back, and once more, given True, if an interrupt cuts that off. If that raises too,
-        the index is closed."""
+        """Makes a step. If that raises, `restore` takes it back, and once more, given True, if an interrupt cuts that off. If that raises
+        too, the index is closed."""
         # (nothing stands before or between these: an interrupt at a `try` itself passes by the `except` of the one around it)
         try:
             try:
