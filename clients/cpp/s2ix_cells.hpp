@@ -55,6 +55,8 @@ struct Where {
   std::size_t entry = 0;
   std::optional<std::uint64_t> value = {};
   std::optional<std::size_t> place = {};
+  std::optional<Row> pair = {};
+  std::size_t later = 0;
 };
 
 // Why a call was refused. It left the store as it was.
@@ -69,8 +71,8 @@ class Error : public std::runtime_error {
   // The first line of a dump or a journal that has a fault, from 1; 0 if the call was refused for another reason.
   [[nodiscard]] std::size_t line() const noexcept { return where_.line; }
 
-  // The number of the change of a journal that is refused, and of its first entry whose count is not the one held. Both count from 1; 0
-  // means none.
+  // The number of the change of a journal that is refused, or for S2IX_BELOW_ZERO of the change that can't be taken back; and of the first entry
+  // of a journal's change whose count is not the one held. Both count from 1; 0 means none.
   [[nodiscard]] std::size_t change() const noexcept { return where_.change; }
   [[nodiscard]] std::size_t entry() const noexcept { return where_.entry; }
 
@@ -83,9 +85,15 @@ class Error : public std::runtime_error {
   // labels_each tell the place of the target. None if no item of a list is refused.
   [[nodiscard]] std::optional<std::size_t> place() const noexcept { return where_.place; }
 
+  // For S2IX_BELOW_ZERO of revert, the first pair whose count would be below 0, with the count that is held, and the number of the later change
+  // that took its copies. Else none, and 0.
+  [[nodiscard]] std::optional<Row> pair() const noexcept { return where_.pair; }
+  [[nodiscard]] std::size_t later() const noexcept { return where_.later; }
+
  private:
   static std::string text(std::uint32_t status, const Where& where) {
     std::string words = "s2ix: " + status_text(status);
+    if (where.pair) return words + ": " + taken(*where.pair, where);
     if (where.line != 0) words += ": line " + std::to_string(where.line);
     if (where.change != 0) words += ": change " + std::to_string(where.change);
     if (where.entry != 0) words += ", entry " + std::to_string(where.entry);
@@ -96,6 +104,14 @@ class Error : public std::runtime_error {
     }
     if (where.place) words += " at place " + std::to_string(*where.place);
     return words;
+  }
+
+  static std::string taken(const Row& pair, const Where& where) {
+    std::uint8_t token[16] = {};
+    std::size_t number = 0;
+    s2ix_cell_to_token(pair.cell, token, &number);
+    return "change " + std::to_string(where.later) + " took copies of " + std::string(token, token + number) + " under " +
+           std::to_string(pair.label) + " that change " + std::to_string(where.change) + " had added";
   }
 
   std::uint32_t status_;

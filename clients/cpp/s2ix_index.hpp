@@ -3,6 +3,7 @@
 #define S2IX_INDEX_HPP
 
 #include "s2ix_cells.hpp"
+#include "s2ix_changes.hpp"
 #include "s2ix_each.hpp"
 #include "s2ix_handle.hpp"
 
@@ -32,23 +33,6 @@ struct Range {
   std::uint64_t start;
   std::uint64_t limit;
 };
-
-namespace detail {
-
-// The entries that lead from the pairs of a label to one copy of each of some cells, both by rising cell.
-inline std::vector<Entry> led_to(const std::vector<Row>& held, std::uint32_t label, const std::vector<std::uint64_t>& cells) {
-  std::vector<Entry> entries;
-  auto row = held.begin();
-  for (const std::uint64_t cell : cells) {
-    for (; row != held.end() && row->cell < cell; ++row) entries.push_back({row->cell, label, row->count, 0});
-    const std::uint32_t before = row != held.end() && row->cell == cell ? (row++)->count : 0;
-    if (before != 1) entries.push_back({cell, label, before, 1});
-  }
-  for (; row != held.end(); ++row) entries.push_back({row->cell, label, row->count, 0});
-  return entries;
-}
-
-}  // namespace detail
 
 template <class Id>
 class BasicS2CellIndex;
@@ -179,9 +163,7 @@ class Index {
       std::vector<Row> held;
       const std::uint32_t status = fill_of(handle, label, held, s2ix_of_label, 2 * wanted.size());
       if (status != S2IX_DONE) return status;
-      const std::vector<Entry> entries = detail::led_to(held, label, wanted);
-      static constexpr Entry none{};
-      return s2ix_record(handle, entries.empty() ? &none : entries.data(), entries.size(), to);
+      return detail::record(handle, detail::led_to(held, label, wanted), to);
     });
   }
 
@@ -205,9 +187,31 @@ class Index {
   }
 
   // Takes back the change with a number, counted from 1 among those that can be undone, and leaves those that followed it.
-  // S2IX_NO_SUCH_CHANGE, S2IX_BELOW_ZERO.
+  // S2IX_NO_SUCH_CHANGE; S2IX_BELOW_ZERO, with the first pair whose count would be below 0, and the later change that took its copies. It
+  // takes O(m) for m entries of the later changes to find that one.
   std::size_t revert(std::uint32_t change) {
-    return edit([&](::s2ix_handle* handle, std::size_t* to) { return s2ix_revert(handle, change, to); });
+    Where below_zero;
+    return edit(
+        [&](::s2ix_handle* handle, std::size_t* to) {
+          const std::uint32_t status = s2ix_revert(handle, change, to);
+          if (status == S2IX_BELOW_ZERO) below_zero = detail::below_zero(handle, change);
+          return status;
+        },
+        [&](std::uint32_t) { return below_zero; });
+  }
+
+  // Gives a label the cells and counts that it had before the change with a number, as in revert, whatever came later. O(m log m) for m
+  // entries of that change and of the later ones, besides the time of an edit. S2IX_NO_LABEL, S2IX_NO_SUCH_CHANGE.
+  std::size_t restore(std::uint32_t label, std::uint32_t before) {
+    if (label > detail::highest_label) detail::refuse(S2IX_NO_LABEL, detail::wrong_label(S2IX_NO_LABEL, {label}));
+    return edit([&](::s2ix_handle* handle, std::size_t* to) {
+      // (a change of no entries is refused for what each edit is refused for first)
+      const std::uint32_t refused = detail::record(handle, {}, to);
+      if (refused != S2IX_NO_CHANGE) return refused;
+      std::vector<Entry> since;
+      const std::uint32_t status = detail::read_from(handle, label, before, since);
+      return status == S2IX_DONE ? detail::record(handle, detail::led_back(std::move(since)), to) : status;
+    });
   }
 
   // Does a change that is given by its entries, as change() and difference() list them: by rising cell, then label. All are done, or none.

@@ -1,5 +1,5 @@
-// Changes that are given entry by entry, rows that are removed at once, labels that get other cells, and what follows from two indexes or
-// from a change on. It ends with 'N passed, M failed', after a line for each wrong answer.
+// Changes that are given entry by entry, rows that are removed at once, labels that get other cells or those that they had, changes that
+// can't be taken back, and what follows from two indexes or from a change on. It ends with 'N passed, M failed', after a line for each wrong answer.
 #include "s2ix.hpp"
 
 #include <iostream>
@@ -53,6 +53,17 @@ bool AreSame(const std::vector<s2ix::Entry>& first, const std::vector<s2ix::Entr
 // All that an index shows.
 std::string Shown(const s2ix::Index& index) { return index.dump() + index.journal() + std::to_string(index.undone_count()); }
 
+// The rows of a label, and those of all others, as texts.
+std::string DumpOf(const s2ix::Index& index, std::uint32_t label, bool is_wanted = true) {
+  std::string text;
+  for (const s2ix::Row& row : index.pairs(0, index.len())) {
+    if ((row.label == label) != is_wanted) continue;
+    text += s2ix::cell::to_token(row.cell) + " " + std::to_string(row.label) + " " + std::to_string(row.count) + "\n";
+  }
+  return text;
+}
+std::string DumpWithout(const s2ix::Index& index, std::uint32_t label) { return DumpOf(index, label, false); }
+
 void SetsLabels() {
   s2ix::Index index(s2ix::Limits{3, 9, 3});
   index.add_all({{kFirst, 1, 3}, {kFace, 1, 1}, {kFirst, 2, 1}});
@@ -81,6 +92,108 @@ void SetsLabels() {
   EXPECT(many.set_label(4, leaves) == 500 && many.region(4) == leaves && many.done_count() == 1);
   leaves.erase(leaves.begin() + 100, leaves.begin() + 400);
   EXPECT(many.set_label(4, leaves) == 300 && many.region(4) == leaves && many.undo() == 300 && many.len() == 500);
+}
+
+void RestoresLabels() {
+  s2ix::Index index(s2ix::Limits{4, 9, 6});
+  index.add_all({{kFirst, 1, 3}, {kFace, 1, 1}, {kFirst, 2, 1}});
+  index.set_label(1, {kSecond});
+  index.add_all({{kFirst, 1, 1}, {kFirst, 2, 1}});
+  index.add(kThird, 1);
+  index.undo();
+  const std::string shown = Shown(index);
+  REFUSED(S2IX_NO_LABEL, index.restore(kNoLabel, 9));
+  REFUSED(S2IX_NO_SUCH_CHANGE, index.restore(1, 0));
+  REFUSED(S2IX_NO_SUCH_CHANGE, index.restore(1, 4));
+  REFUSED(S2IX_NO_SUCH_CHANGE, index.restore(1, 4294967295));
+  REFUSED(S2IX_NO_CHANGE, index.restore(7, 1));
+  EXPECT(Shown(index) == shown);
+  EXPECT(index.restore(1, 2) == 3 && index.count(kFirst, 1) == 3 && index.count(kFace, 1) == 1 && index.count(kSecond, 1) == 0);
+  EXPECT(index.count(kFirst, 2) == 2 && index.done_count() == 4 && index.undone_count() == 0);
+  // (it had nothing before the first change, and has now what it had before the third but for its own change)
+  REFUSED(S2IX_NO_CHANGE, index.restore(1, 2));
+  EXPECT(index.restore(1, 1) == 2 && index.region(1).empty() && index.restore(1, 4) == 2 && index.region(1) == (Cells{kFirst, kSecond}));
+  EXPECT(index.undo() == 2 && index.undo() == 2 && index.undo() == 3 && index.count(kSecond, 1) == 1);
+  index.redo();
+  index.add(kFace, 5);
+  index.add(kFace, 5);
+  REFUSED(S2IX_JOURNAL_FULL, index.restore(1, 0));
+  REFUSED(S2IX_JOURNAL_FULL, index.restore(7, 1));
+  REFUSED(S2IX_NO_LABEL, index.restore(kNoLabel, 1));
+  index.forget();
+  REFUSED(S2IX_NO_SUCH_CHANGE, index.restore(1, 1));
+}
+
+// What a label had before each of many changes is what it gets. The limits of what a store holds are those of an edit.
+void RestoresAnyMoment() {
+  s2ix::Index index;
+  std::vector<s2ix::Index> moments;
+  std::uint64_t chance = 7;
+  const auto below = [&](std::uint64_t end) { return (chance = chance * 6364136223846793005 + 1442695040888963407) / 4294967296 % end; };
+  for (int step = 0; step < 400; step++) {
+    const std::uint64_t cell = kLeaf + 2 * below(40);
+    const auto label = static_cast<std::uint32_t>(below(4));
+    moments.push_back(index.copy());
+    if (below(3) > 0 || index.count(cell, label) == 0) {
+      index.add(cell, label, static_cast<std::uint32_t>(1 + below(3)));
+    } else if (below(2) > 0) {
+      index.remove(cell, label);
+    } else {
+      index.set_label(label, {cell, cell + 2});
+    }
+  }
+  for (std::uint32_t moment = 1; moment <= moments.size(); moment += 3) {
+    const auto label = static_cast<std::uint32_t>(below(4));
+    const std::string wanted = DumpOf(moments[moment - 1], label), others = DumpWithout(index, label);
+    const bool differs = DumpOf(index, label) != wanted;
+    REFUSED(differs ? S2IX_DONE : S2IX_NO_CHANGE, index.restore(label, moment));
+    EXPECT(DumpOf(index, label) == wanted && DumpWithout(index, label) == others);
+    if (differs) index.undo();
+  }
+  s2ix::Index full(s2ix::Limits{2, 9, 9});
+  full.add_union({kFirst, kSecond}, 1);
+  full.set_label(1, {kThird});
+  full.add(kThird, 2);
+  REFUSED(S2IX_TOO_MANY_PAIRS, full.restore(1, 2));
+  EXPECT(full.done_count() == 3 && full.restore(2, 3) == 1 && full.restore(1, 2) == 3);
+}
+
+// Whether a change can't be taken back for a pair, of which some copies are held, and says which later change took others.
+bool IsTaken(s2ix::Index& index, std::uint32_t change, std::uint64_t cell, std::uint32_t label, std::uint32_t held, std::size_t later) {
+  const s2ix::Error error = Thrown([&] { index.revert(change); });
+  const std::string words = ": change " + std::to_string(later) + " took copies of " + s2ix::cell::to_token(cell) + " under " +
+                            std::to_string(label) + " that change " + std::to_string(change) + " had added";
+  return error.status() == S2IX_BELOW_ZERO && error.pair() && error.pair()->cell == cell && error.pair()->label == label &&
+         error.pair()->count == held && error.change() == change && error.later() == later && !error.value() && !error.place() &&
+         error.entry() == 0 && error.what() == "s2ix: " + s2ix::status_text(S2IX_BELOW_ZERO) + words;
+}
+
+void TellsWhatTook() {
+  s2ix::Index index;
+  index.add_all({{kFirst, 7, 2}, {kSecond, 5, 3}, {kSecond, 7, 3}, {kFace, 1, 1}});
+  index.remove(kSecond, 7, 2);
+  index.add(kSecond, 7, 2);
+  index.remove(kSecond, 7);
+  index.remove(kSecond, 7);
+  index.remove(kFace, 1);
+  index.add(kFirst, 3);
+  const std::string shown = Shown(index);
+  EXPECT(IsTaken(index, 1, kSecond, 7, 1, 4) && Shown(index) == shown);
+  index.add(kSecond, 7, 2);
+  EXPECT(IsTaken(index, 1, kFace, 1, 0, 6));
+  index.add(kFace, 1);
+  EXPECT(index.revert(1) == 4 && index.len() == 1);
+  EXPECT(IsTaken(index, 1, kFirst, 7, 0, 10));
+  EXPECT(IsTaken(index, 3, kSecond, 7, 0, 10));
+  // (a change that took copies gives them back, whatever is held)
+  EXPECT(index.revert(2) == 1 && index.count(kSecond, 7) == 2);
+  const s2ix::Error other = Thrown([&] { index.revert(99); });
+  EXPECT(other.status() == S2IX_NO_SUCH_CHANGE && !other.pair() && other.change() == 0 && other.later() == 0);
+  s2ix::Index many;
+  for (std::uint64_t k = 0; k < 300; k++) many.add_all({{kLeaf + 2 * k, 1, 1}, {kLeaf + 2 * k, 2, 1}});
+  many.join(300);
+  for (std::uint64_t k = 299; k > 0; k--) many.remove(kLeaf + 2 * k, 2);
+  EXPECT(IsTaken(many, 1, kLeaf + 2, 2, 0, 300));
 }
 
 void Recorded() {
@@ -170,6 +283,7 @@ void Closed() {
   std::vector<s2ix::HeldLabel> labels(3);
   REFUSED(S2IX_CLOSED, index.set_label(1, {kFirst}));
   REFUSED(S2IX_CLOSED, index.set_label(1, {}));
+  REFUSED(S2IX_CLOSED, index.restore(1, 1));
   REFUSED(S2IX_CLOSED, index.record({{kFirst, 1, 0, 1}}));
   REFUSED(S2IX_CLOSED, index.remove_all({{kFirst, 1, 1}}));
   REFUSED(S2IX_CLOSED, index.journal_from(1));
@@ -181,6 +295,9 @@ void Closed() {
 
 int main() {
   SetsLabels();
+  RestoresLabels();
+  RestoresAnyMoment();
+  TellsWhatTook();
   Recorded();
   RemovedAtOnce();
   JournalsFromAChange();

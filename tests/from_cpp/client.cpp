@@ -658,6 +658,7 @@ bool RefusesEdits(s2ix::Index& index) {
   return IsMistake([&] { index.add(kSecond, 1); }) && IsMistake([&] { index.add_all({{kSecond, 1, 1}}); }) &&
          IsMistake([&] { index.remove(kFirst, 1); }) && IsMistake([&] { index.add_union({kSecond}, 1); }) &&
          IsMistake([&] { index.drop_label(1); }) && IsMistake([&] { index.set_label(1, {kSecond}); }) && IsMistake([&] { index.relabel(1, 2); }) && IsMistake([&] { index.grow(1, 1); }) &&
+         IsMistake([&] { index.restore(1, 1); }) &&
          IsMistake([&] { index.normalise_label(1); }) && IsMistake([&] { index.revert(1); }) && IsMistake([&] { index.undo(); }) &&
          IsMistake([&] { index.redo(); }) && IsMistake([&] { index.forget(); }) && IsMistake([&] { index.clear(); }) &&
          IsMistake([&] { index.line("undo"); }) && IsMistake([&] { index.apply("s2ix-journal 2\nend 0\n"); }) &&

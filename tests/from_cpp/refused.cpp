@@ -32,7 +32,8 @@ constexpr std::uint64_t kFirst = 0x0400000000000000, kSecond = 0x0c0000000000000
 s2ix::Index Zones() {
   s2ix::Index index;
   index.add_union({kFirst, kSecond}, 7);
-  index.add(kLeaf, 8, 2);
+  index.add(kLeaf, 8, 3);
+  index.remove(kLeaf, 8);
   index.add(0x3000000000000000, 9);
   index.undo();
   return index;
@@ -66,6 +67,16 @@ std::string AsInS2(const s2ix::Index& index) {
   text += TextOf(same.GetIntersectingLabels(std::vector<std::uint64_t>{kFace}).size());
   for (s2ix::S2CellIndex::CellIterator cells(&same); !cells.done(); cells.Next()) text += TextOf(cells.cell_id());
   return text;
+}
+
+// What is said of a change that can't be taken back, since a later one took what it gave.
+std::string TakenBack(s2ix::Index& index) {
+  try {
+    return TextOf(index.revert(2));
+  } catch (const s2ix::Error& error) {
+    left = 0;
+    return error.what();
+  }
 }
 
 // A call, whose answer becomes a text when no growth is refused any more.
@@ -104,6 +115,8 @@ const Call kCalls[] = {
     {"grow", [](s2ix::Index& index) { return index.grow(7, 1); }},
     {"normalise_label", [](s2ix::Index& index) { return index.normalise_label(8); }},
     {"revert", [](s2ix::Index& index) { return index.revert(1); }},
+    {"revert of what was taken", [](s2ix::Index& index) { return TakenBack(index); }},
+    {"restore", [](s2ix::Index& index) { return index.restore(7, 1); }},
     {"record", [](s2ix::Index& index) { return index.record({{kFirst, 7, 1, 2}, {kFace, 7, 0, 1}}); }},
     {"difference", [](s2ix::Index& index) { return index.difference(s2ix::Index::load(kDump)); }},
     {"apply", [](s2ix::Index& index) { return index.apply("s2ix-journal 2\nchange 2\n04 7 1 3\n1c 7 0 1\nchange 1\n3 9 0 1\nend 2\n"); }},
