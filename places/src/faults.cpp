@@ -17,7 +17,7 @@
 namespace places {
 namespace {
 
-// So many pairs are looked at for the first fault: a ring may have one for each two of its edges.
+// So many pairs are looked at for faults: a ring may have one for each two of its edges.
 constexpr size_t kMostPairs = 10'000;
 // So many rings are compared one by one.
 constexpr size_t kMostRings = 2'000;
@@ -44,21 +44,28 @@ std::vector<Edge> EdgesOf(const std::vector<Ring>& rings) {
   return edges;
 }
 
-// Keeps the first of the faults that it is told.
-class FirstFault {
+// Faults that are found in any order, and told by ring and corner.
+class Pairs {
  public:
-  void Tell(uint32_t kind, std::pair<size_t, size_t> one, std::pair<size_t, size_t> other) {
+  void Add(uint32_t kind, std::pair<size_t, size_t> one, std::pair<size_t, size_t> other) {
     if (other < one) std::swap(one, other);
-    const s2ix_fault told = {kind, one.first, one.second, other.first, other.second};
-    if (first_.kind == S2IX_FAULT_NONE || Order(told) < Order(first_)) first_ = told;
+    found_.push_back({kind, one.first, one.second, other.first, other.second});
   }
-  const s2ix_fault& get() const { return first_; }
+
+  // Tells each once.
+  void TellAll(Faults* faults) {
+    const auto order = [](const s2ix_fault& fault) {
+      return std::make_tuple(fault.ring, fault.corner, fault.other_ring, fault.other_corner, fault.kind);
+    };
+    const auto is_before = [order](const s2ix_fault& a, const s2ix_fault& b) { return order(a) < order(b); };
+    std::sort(found_.begin(), found_.end(), is_before);
+    const auto is_same = [order](const s2ix_fault& a, const s2ix_fault& b) { return order(a) == order(b); };
+    found_.erase(std::unique(found_.begin(), found_.end(), is_same), found_.end());
+    for (const s2ix_fault& fault : found_) faults->Tell(fault);
+  }
 
  private:
-  static std::tuple<size_t, size_t, size_t, size_t> Order(const s2ix_fault& fault) {
-    return {fault.ring, fault.corner, fault.other_ring, fault.other_corner};
-  }
-  s2ix_fault first_ = kNoFault;
+  std::vector<s2ix_fault> found_;
 };
 
 // Calls `visit` with each two edges that have the same key. Other edges may have it too.
@@ -79,29 +86,33 @@ void VisitPairs(const std::vector<Edge>& edges, const std::function<size_t(const
 bool AreSame(const Edge& a, const Edge& b) { return a.from() == b.from() && a.to() == b.to(); }
 bool AreReversed(const Edge& a, const Edge& b) { return a.from() == b.to() && a.to() == b.from(); }
 
-void FindCrossings(const std::vector<Edge>& edges, FirstFault* first) {
+void FindEdgeCrossings(const std::vector<Edge>& edges, Faults* faults) {
+  Pairs pairs;
   std::vector<std::pair<S2Point, S2Point>> ends;
   for (const Edge& edge : edges) ends.emplace_back(edge.from(), edge.to());
   MutableS2ShapeIndex index;
   index.Add(std::make_unique<S2EdgeVectorShape>(std::move(ends)));
   size_t visited = 0;
   const auto visit = [&](const s2shapeutil::ShapeEdge& a, const s2shapeutil::ShapeEdge& b, bool) {
-    first->Tell(S2IX_FAULT_CROSSING, edges[a.id().edge_id].place(), edges[b.id().edge_id].place());
+    pairs.Add(S2IX_FAULT_CROSSING, edges[a.id().edge_id].place(), edges[b.id().edge_id].place());
     return ++visited < kMostPairs;
   };
   s2shapeutil::VisitCrossingEdgePairs(index, s2shapeutil::CrossingType::INTERIOR, visit);
+  pairs.TellAll(faults);
 }
 
 // Rings that go from one side of each other to the other at a corner.
-void FindCornerCrossings(const std::vector<Edge>& edges, FirstFault* first) {
-  const auto visit = [first](const Edge& a, const Edge& b) {
+void FindCornerCrossings(const std::vector<Edge>& edges, Faults* faults) {
+  Pairs pairs;
+  const auto visit = [&pairs](const Edge& a, const Edge& b) {
     if (a.from() != b.from()) return;
     const auto overlap = [&a](const S2Point& b0, const S2Point& b2) {
       return S2::GetWedgeRelation(a.before(), a.from(), a.to(), b0, b2) == S2::WEDGE_PROPERLY_OVERLAPS;
     };
-    if (overlap(b.before(), b.to()) && overlap(b.to(), b.before())) first->Tell(S2IX_FAULT_CROSSING, a.corner_place(), b.corner_place());
+    if (overlap(b.before(), b.to()) && overlap(b.to(), b.before())) pairs.Add(S2IX_FAULT_CROSSING, a.corner_place(), b.corner_place());
   };
   VisitPairs(edges, [](const Edge& edge) { return S2PointHash()(edge.from()); }, visit);
+  pairs.TellAll(faults);
 }
 
 // The inner sides of rings that don't cross.
@@ -118,29 +129,27 @@ class Nesting {
     }
   }
 
-  void Find(FirstFault* first) const {
-    for (size_t inner = 0; inner < rings_.size() && first->get().kind == S2IX_FAULT_NONE; inner++) {
-      rings_[inner].is_hole ? FindForHole(inner, first) : FindForOuter(inner, first);
-    }
+  void Find(Pairs* pairs) const {
+    for (size_t inner = 0; inner < rings_.size(); inner++) rings_[inner].is_hole ? FindForHole(inner, pairs) : FindForOuter(inner, pairs);
   }
 
  private:
   bool Has(size_t outer, size_t inner) const { return loops_[outer]->ContainsNested(*loops_[inner]); }
 
-  void FindForHole(size_t hole, FirstFault* first) const {
+  void FindForHole(size_t hole, Pairs* pairs) const {
     const std::pair<size_t, size_t> place = {rings_[hole].number, 0};
     for (size_t other = 0; other < rings_.size(); other++) {
       if (rings_[other].polygon != rings_[hole].polygon || other == hole) continue;
       const std::pair<size_t, size_t> other_place = {rings_[other].number, 0};
-      if (!rings_[other].is_hole && !Has(other, hole)) first->Tell(S2IX_FAULT_OUTSIDE, place, place);
-      if (rings_[other].is_hole && Has(other, hole)) first->Tell(S2IX_FAULT_WITHIN, place, other_place);
+      if (!rings_[other].is_hole && !Has(other, hole)) pairs->Add(S2IX_FAULT_OUTSIDE, place, place);
+      if (rings_[other].is_hole && Has(other, hole)) pairs->Add(S2IX_FAULT_WITHIN, place, other_place);
     }
   }
 
-  void FindForOuter(size_t inner, FirstFault* first) const {
+  void FindForOuter(size_t inner, Pairs* pairs) const {
     for (size_t outer = 0; outer < rings_.size(); outer++) {
       if (rings_[outer].is_hole || outer == inner || !Has(outer, inner) || IsInHole(outer, inner)) continue;
-      first->Tell(S2IX_FAULT_WITHIN, {rings_[inner].number, 0}, {rings_[outer].number, 0});
+      pairs->Add(S2IX_FAULT_WITHIN, {rings_[inner].number, 0}, {rings_[outer].number, 0});
     }
   }
 
@@ -158,14 +167,14 @@ class Nesting {
 
 }  // namespace
 
-s2ix_fault SharedFault(const std::vector<Ring>& rings) {
-  FirstFault first;
-  const auto visit = [&first](const Edge& a, const Edge& b) {
+void FindShared(const std::vector<Ring>& rings, Faults* faults) {
+  Pairs pairs;
+  const auto visit = [&pairs](const Edge& a, const Edge& b) {
     const bool cancels = AreReversed(a, b) && a.is_on_seam();
-    if (AreSame(a, b) || (AreReversed(a, b) && !cancels)) first.Tell(S2IX_FAULT_SHARED, a.place(), b.place());
+    if (AreSame(a, b) || (AreReversed(a, b) && !cancels)) pairs.Add(S2IX_FAULT_SHARED, a.place(), b.place());
   };
   VisitPairs(EdgesOf(rings), [](const Edge& edge) { return S2PointHash()(edge.from()) + S2PointHash()(edge.to()); }, visit);
-  return first.get();
+  pairs.TellAll(faults);
 }
 
 bool Assemble(const std::vector<Ring>& rings, S2Polygon* polygon) {
@@ -181,14 +190,34 @@ bool Assemble(const std::vector<Ring>& rings, S2Polygon* polygon) {
   return builder.Build(&error);
 }
 
-s2ix_fault CommonFault(const std::vector<Ring>& rings) {
-  FirstFault first;
+void FindCrossings(const std::vector<Ring>& rings, Faults* faults) {
   const std::vector<Edge> edges = EdgesOf(rings);
-  FindCrossings(edges, &first);
-  if (!first.get().kind) FindCornerCrossings(edges, &first);
-  if (!first.get().kind && rings.size() <= kMostRings) Nesting(rings).Find(&first);
-  if (!first.get().kind) first.Tell(S2IX_FAULT_UNSOUND, {0, 0}, {0, 0});
-  return first.get();
+  FindEdgeCrossings(edges, faults);
+  FindCornerCrossings(edges, faults);
+}
+
+void FindNesting(const std::vector<Ring>& rings, Faults* faults) {
+  if (rings.size() > kMostRings) return;
+  Pairs pairs;
+  Nesting(rings).Find(&pairs);
+  pairs.TellAll(faults);
+}
+
+void ReadSound(const s2ix_rings& given, bool all, S2Polygon* polygon, Faults* faults) {
+  const auto is_over = [all, faults] { return !all && !faults->all().empty(); };
+  const std::vector<bool> faulty = FindRingFaults(given, faults);
+  if (is_over()) return;
+  const std::vector<Ring> rings = RingsOf(given, faulty, faults);
+  if (is_over()) return;
+  FindShared(rings, faults);
+  if (is_over()) return;
+  if (faults->all().empty() && Assemble(rings, polygon)) {
+    if (polygon->is_empty()) faults->Tell({S2IX_FAULT_EMPTY, 0, 0, 0, 0});
+    return;
+  }
+  FindCrossings(rings, faults);
+  if (faults->all().empty()) FindNesting(rings, faults);
+  if (faults->all().empty()) faults->Tell({S2IX_FAULT_UNSOUND, 0, 0, 0, 0});
 }
 
 }  // namespace places

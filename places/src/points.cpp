@@ -8,6 +8,7 @@
 #include "s2/mutable_s2shape_index.h"
 #include "s2/s2contains_point_query.h"
 #include "s2/s2latlng.h"
+#include "lists.h"
 #include "shape.h"
 
 namespace places {
@@ -24,26 +25,6 @@ uint32_t CheckShapes(const s2ix_shape* const* shapes, size_t len) {
   const bool all_there = std::none_of(shapes, shapes + len, [](const s2ix_shape* shape) { return shape == nullptr; });
   return all_there ? S2IX_PLACES_DONE : S2IX_PLACES_NO_POINTER;
 }
-
-// Puts the lists of shapes, and counts also what has no room.
-class Lists {
- public:
-  Lists(size_t* ends, uint32_t* found, size_t room) : ends_(ends), found_(found), room_(room) {}
-
-  void Add(uint32_t shape) {
-    if (number_ < room_) found_[number_] = shape;
-    number_++;
-  }
-  void End() { *ends_++ = number_; }
-  size_t number() const { return number_; }
-  uint32_t status() const { return number_ <= room_ ? S2IX_PLACES_DONE : S2IX_PLACES_NO_ROOM; }
-
- private:
-  size_t* ends_;
-  uint32_t* found_;
-  size_t room_;
-  size_t number_ = 0;
-};
 
 void LookAtEach(const s2ix_shape* const* shapes, size_t len, const std::vector<S2Point>& points, Lists* lists) {
   for (const S2Point& point : points) {
@@ -73,6 +54,13 @@ void LookInIndex(const s2ix_shape* const* shapes, size_t len, const std::vector<
 
 }  // namespace
 
+std::optional<size_t> FirstWrong(const double* latitudes, const double* longitudes, size_t points) {
+  for (size_t at = 0; at < points; at++) {
+    if (!IsPlace(latitudes[at], longitudes[at])) return at;
+  }
+  return std::nullopt;
+}
+
 bool IsPlace(double latitude, double longitude) { return std::abs(latitude) <= 90 && std::abs(longitude) <= 180; }
 
 S2Point PointAt(double latitude, double longitude) {
@@ -85,15 +73,13 @@ S2Point PointAt(double latitude, double longitude) {
 }
 
 std::optional<std::vector<S2Point>> PointsAt(const double* latitudes, const double* longitudes, size_t points, size_t* wrong) {
+  if (const auto first = FirstWrong(latitudes, longitudes, points)) {
+    *wrong = *first;
+    return std::nullopt;
+  }
   std::vector<S2Point> at;
   at.reserve(points);
-  for (size_t k = 0; k < points; k++) {
-    if (!IsPlace(latitudes[k], longitudes[k])) {
-      *wrong = k;
-      return std::nullopt;
-    }
-    at.push_back(PointAt(latitudes[k], longitudes[k]));
-  }
+  for (size_t k = 0; k < points; k++) at.push_back(PointAt(latitudes[k], longitudes[k]));
   return at;
 }
 
@@ -118,7 +104,8 @@ uint32_t s2ix_shapes_at_each(const s2ix_shape* const* shapes, size_t len, const 
   });
 }
 
-uint32_t s2ix_shapes_hold_each(const s2ix_shape* const* shapes, size_t len, const double* latitudes, const double* longitudes, size_t points,
+uint32_t s2ix_shapes_hold_each(const s2ix_shape* const* shapes, size_t len, const double* latitudes, const double* longitudes,
+    size_t points,
                                const uint32_t* points_of, const uint32_t* shapes_of, size_t pairs, bool* inside, size_t* wrong) {
   using namespace places;
   if (IsMissing(shapes, len) || IsMissing(latitudes, points) || IsMissing(longitudes, points) || IsMissing(points_of, pairs) ||

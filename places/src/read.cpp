@@ -8,20 +8,8 @@
 namespace places {
 namespace {
 
-// Reads rings without faults; else sets the fault.
-void ReadSound(const s2ix_rings& given, S2Polygon* polygon, s2ix_fault* fault) {
-  *fault = RingFault(given);
-  if (fault->kind) return;
-  const std::vector<Ring> rings = RingsOf(given, fault);
-  if (fault->kind) return;
-  *fault = SharedFault(rings);
-  if (fault->kind) return;
-  if (!Assemble(rings, polygon)) {
-    *fault = CommonFault(rings);
-  } else if (polygon->is_empty()) {
-    fault->kind = S2IX_FAULT_EMPTY;
-  }
-}
+// So many faults are told at most.
+constexpr size_t kMostFaults = 10'000;
 
 uint32_t Write(std::string_view words, uint8_t* text, size_t room, size_t* number) {
   if (IsMissing(text, room) || number == nullptr) return S2IX_PLACES_NO_POINTER;
@@ -82,6 +70,10 @@ uint32_t s2ix_fault_text(uint32_t kind, uint8_t* text, size_t room, size_t* numb
   return places::Write(places::FaultWords(kind), text, room, number);
 }
 
+uint32_t s2ix_places_version(uint8_t* text, size_t room, size_t* number) {
+  return places::Write(S2IX_PLACES_VERSION, text, room, number);
+}
+
 uint32_t s2ix_shape_read(const s2ix_rings* rings, bool mend, s2ix_shape** shape, s2ix_fault* fault) {
   using namespace places;
   if (rings == nullptr || IsMissingRings(*rings) || shape == nullptr || fault == nullptr) return S2IX_PLACES_NO_POINTER;
@@ -90,9 +82,27 @@ uint32_t s2ix_shape_read(const s2ix_rings* rings, bool mend, s2ix_shape** shape,
   return Guarded([&]() -> uint32_t {
     if (const uint32_t refused = CheckForm(*rings)) return refused;
     auto read = std::make_unique<s2ix_shape>();
-    ReadSound(*rings, &read->polygon, fault);
+    Faults first(1);
+    ReadSound(*rings, false, &read->polygon, &first);
+    if (!first.all().empty()) *fault = first.all().front();
     if (fault->kind && !(mend && Mend(*rings, &read->polygon, fault))) return S2IX_PLACES_FAULTY;
     *shape = read.release();
+    return S2IX_PLACES_DONE;
+  });
+}
+
+uint32_t s2ix_rings_faults(const s2ix_rings* rings, s2ix_fault* faults, size_t room, size_t* number) {
+  using namespace places;
+  if (rings == nullptr || IsMissingRings(*rings) || IsMissing(faults, room) || number == nullptr) return S2IX_PLACES_NO_POINTER;
+  *number = 0;
+  return Guarded([&]() -> uint32_t {
+    if (const uint32_t refused = CheckForm(*rings)) return refused;
+    s2ix_shape read;
+    Faults found(kMostFaults);
+    ReadSound(*rings, true, &read.polygon, &found);
+    *number = found.all().size();
+    if (*number > room) return S2IX_PLACES_NO_ROOM;
+    std::copy(found.all().begin(), found.all().end(), faults);
     return S2IX_PLACES_DONE;
   });
 }

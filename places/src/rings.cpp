@@ -41,38 +41,54 @@ bool AreSamePlace(const Placed& a, const Placed& b) {
          std::get<3>(a) == std::get<3>(b);
 }
 
-s2ix_fault RepeatedFault(const Degrees& ring, size_t number) {
-  s2ix_fault first = kNoFault;
+// Tells of each corner that is at the place of an earlier one.
+void FindRepeated(const Degrees& ring, size_t number, Faults* faults) {
+  std::vector<s2ix_fault> found;
   const std::vector<Placed> places = PlacesOf(ring);
-  for (size_t at = 1; at < places.size(); at++) {
-    const size_t corner = std::get<4>(places[at - 1]), again = std::get<4>(places[at]);
-    if (!AreSamePlace(places[at - 1], places[at])) continue;
-    if (first.kind == S2IX_FAULT_NONE || again < first.other_corner) first = {S2IX_FAULT_REPEATED, number, corner, number, again};
+  for (size_t at = 1, first = 0; at < places.size(); at++) {
+    if (!AreSamePlace(places[first], places[at])) {
+      first = at;
+      continue;
+    }
+    found.push_back({S2IX_FAULT_REPEATED, number, std::get<4>(places[first]), number, std::get<4>(places[at])});
   }
-  return first;
+  const auto is_before = [](const s2ix_fault& a, const s2ix_fault& b) { return a.other_corner < b.other_corner; };
+  std::sort(found.begin(), found.end(), is_before);
+  for (const s2ix_fault& fault : found) faults->Tell(fault);
 }
 
-s2ix_fault OppositeFault(const Degrees& ring, size_t number) {
+void FindOpposite(const Degrees& ring, size_t number, Faults* faults) {
   for (size_t at = 0; at + 1 < ring.corners; at++) {
     const S2Point from = PointAt(ring.latitudes[at], ring.longitudes[at]);
-    if (AreOpposite(from, PointAt(ring.latitudes[at + 1], ring.longitudes[at + 1]))) return FaultAt(S2IX_FAULT_OPPOSITE, number, at);
+    if (AreOpposite(from, PointAt(ring.latitudes[at + 1], ring.longitudes[at + 1]))) {
+      faults->Tell(FaultAt(S2IX_FAULT_OPPOSITE, number, at));
+    }
   }
-  return kNoFault;
 }
 
-s2ix_fault FaultOf(const Degrees& ring, size_t number) {
+// Tells the faults of a ring; false if there are some.
+bool FindFaultsOf(const Degrees& ring, size_t number, Faults* faults) {
+  const size_t before = faults->all().size();
   for (size_t at = 0; at < ring.corners; at++) {
     const uint32_t kind = NumberFault(ring.latitudes[at], ring.longitudes[at]);
-    if (kind) return FaultAt(kind, number, at);
+    if (kind) faults->Tell(FaultAt(kind, number, at));
   }
-  if (ring.corners == 0) return FaultAt(S2IX_FAULT_TOO_FEW, number, 0);
+  // (what is left needs corners that have places)
+  if (faults->all().size() > before || faults->is_full()) return false;
+  if (ring.corners == 0) {
+    faults->Tell(FaultAt(S2IX_FAULT_TOO_FEW, number, 0));
+    return false;
+  }
   const size_t last = ring.corners - 1;
   if (PointAt(ring.latitudes[0], ring.longitudes[0]) != PointAt(ring.latitudes[last], ring.longitudes[last])) {
-    return FaultAt(S2IX_FAULT_OPEN, number, last);
+    faults->Tell(FaultAt(S2IX_FAULT_OPEN, number, last));
+  } else if (last < 3) {
+    faults->Tell(FaultAt(S2IX_FAULT_TOO_FEW, number, last));
   }
-  if (last < 3) return FaultAt(S2IX_FAULT_TOO_FEW, number, last);
-  const s2ix_fault repeated = RepeatedFault(ring, number);
-  return repeated.kind ? repeated : OppositeFault(ring, number);
+  if (last < 3) return false;
+  FindRepeated(ring, number, faults);
+  FindOpposite(ring, number, faults);
+  return faults->all().size() == before;
 }
 
 bool IsSeamEdge(const S2Point& a, const S2Point& b) { return (IsOnSeam(a) && (IsOnSeam(b) || IsPole(b))) || (IsPole(a) && IsOnSeam(b)); }
@@ -81,7 +97,7 @@ bool IsSeamEdge(const S2Point& a, const S2Point& b) { return (IsOnSeam(a) && (Is
 std::vector<S2Point> SeamOf(const s2ix_rings& given) {
   std::vector<S2Point> seam;
   for (size_t at = 0; at < given.corners; at++) {
-    if (std::abs(given.longitudes[at]) != 180) continue;
+    if (std::abs(given.longitudes[at]) != 180 || !IsPlace(given.latitudes[at], given.longitudes[at])) continue;
     const S2Point point = PointAt(given.latitudes[at], given.longitudes[at]);
     if (IsOnSeam(point)) seam.push_back(point);
   }
@@ -165,7 +181,8 @@ bool IsPole(const S2Point& point) { return point.x() == 0 && point.y() == 0; }
 bool AreOpposite(const S2Point& a, const S2Point& b) { return (a + b).Norm() < 1e-9; }
 
 bool IsMissingRings(const s2ix_rings& given) {
-  return IsMissing(given.latitudes, given.corners) || IsMissing(given.longitudes, given.corners) || IsMissing(given.ring_ends, given.rings) ||
+  return IsMissing(given.latitudes, given.corners) || IsMissing(given.longitudes, given.corners) || IsMissing(given.ring_ends,
+      given.rings) ||
          IsMissing(given.polygon_ends, given.polygons);
 }
 
@@ -175,30 +192,32 @@ uint32_t CheckForm(const s2ix_rings& given) {
   return fits ? S2IX_PLACES_DONE : S2IX_PLACES_NO_RINGS;
 }
 
-s2ix_fault RingFault(const s2ix_rings& given) {
-  if (given.polygons == 0) return FaultAt(S2IX_FAULT_EMPTY, 0, 0);
-  for (size_t polygon = 0; polygon < given.polygons; polygon++) {
+std::vector<bool> FindRingFaults(const s2ix_rings& given, Faults* faults) {
+  std::vector<bool> faulty(given.rings);
+  if (given.polygons == 0) faults->Tell(FaultAt(S2IX_FAULT_EMPTY, 0, 0));
+  for (size_t polygon = 0; polygon < given.polygons && !faults->is_full(); polygon++) {
     const size_t begin = Begin(given.polygon_ends, polygon);
-    if (begin == given.polygon_ends[polygon]) return FaultAt(S2IX_FAULT_EMPTY, begin, 0);
-    for (size_t ring = begin; ring < given.polygon_ends[polygon]; ring++) {
-      const s2ix_fault fault = FaultOf(DegreesOf(given, ring), ring);
-      if (fault.kind) return fault;
+    if (begin == given.polygon_ends[polygon]) faults->Tell(FaultAt(S2IX_FAULT_EMPTY, begin, 0));
+    for (size_t ring = begin; ring < given.polygon_ends[polygon] && !faults->is_full(); ring++) {
+      faulty[ring] = !FindFaultsOf(DegreesOf(given, ring), ring, faults);
     }
   }
-  return kNoFault;
+  return faulty;
 }
 
-std::vector<Ring> RingsOf(const s2ix_rings& given, s2ix_fault* fault) {
+std::vector<Ring> RingsOf(const s2ix_rings& given, const std::vector<bool>& faulty, Faults* faults) {
   std::vector<Ring> rings;
   Way way(SeamOf(given));
   for (size_t polygon = 0; polygon < given.polygons; polygon++) {
     const size_t begin = Begin(given.polygon_ends, polygon);
     for (size_t number = begin; number < given.polygon_ends[polygon]; number++) {
+      if (faulty[number]) continue;
       Ring ring{{}, {}, number, polygon, number > begin, false};
       const bool is_set = way.Set(DegreesOf(given, number), &ring);
       if (!is_set || ring.points.size() < 3) {
-        *fault = FaultAt(is_set ? S2IX_FAULT_TOO_FEW : S2IX_FAULT_SHARED, number, ring.corners.empty() ? 0 : ring.corners.back());
-        return rings;
+        const size_t corner = ring.corners.empty() ? 0 : ring.corners.back();
+        faults->Tell(FaultAt(is_set ? S2IX_FAULT_TOO_FEW : S2IX_FAULT_SHARED, number, corner));
+        continue;
       }
       Direct(&ring);
       rings.push_back(std::move(ring));

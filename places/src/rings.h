@@ -45,21 +45,44 @@ bool IsMissingRings(const s2ix_rings& given);
 // The status if the counts and ends of rings don't fit, else S2IX_PLACES_DONE.
 uint32_t CheckForm(const s2ix_rings& given);
 
-// The first fault of a ring by itself, but for edges that cross.
-s2ix_fault RingFault(const s2ix_rings& given);
+// Faults in the order in which they are told, up to so many.
+class Faults {
+ public:
+  explicit Faults(size_t most) : most_(most) {}
 
-// The rings on the sphere, for rings without faults of their own. Edges along the seam are split at each corner on it, so that those that
-// meet from both sides are equal. If they overlap so often that they can't be sound, the fault is set.
-std::vector<Ring> RingsOf(const s2ix_rings& given, s2ix_fault* fault);
+  void Tell(const s2ix_fault& fault) {
+    if (!is_full()) all_.push_back(fault);
+  }
+  bool is_full() const { return all_.size() >= most_; }
+  const std::vector<s2ix_fault>& all() const { return all_; }
 
-// The first edges that are equal, but for two on the seam in opposite directions.
-s2ix_fault SharedFault(const std::vector<Ring>& rings);
+ private:
+  size_t most_;
+  std::vector<s2ix_fault> all_;
+};
+
+// Tells the faults of each ring by itself, but for edges that cross. It says which rings have one.
+std::vector<bool> FindRingFaults(const s2ix_rings& given, Faults* faults);
+
+// The rings on the sphere, but for those that are faulty. Edges along the seam are split at each corner on it, so that those that meet from
+// both sides are equal. It tells of rings whose edges overlap there so often that they can't be sound, or that have too few corners then,
+// and leaves them out.
+std::vector<Ring> RingsOf(const s2ix_rings& given, const std::vector<bool>& faulty, Faults* faults);
+
+// Tells the edges that are equal, but for two on the seam in opposite directions.
+void FindShared(const std::vector<Ring>& rings, Faults* faults);
 
 // Makes the polygon that is left of all rings; false if there is none.
 bool Assemble(const std::vector<Ring>& rings, S2Polygon* polygon);
 
-// Why rings without the faults above have no polygon.
-s2ix_fault CommonFault(const std::vector<Ring>& rings);
+// Tells the edges that cross, and the rings that do in corners.
+void FindCrossings(const std::vector<Ring>& rings, Faults* faults);
+
+// Tells the rings that lie within each other, or outside, and must not.
+void FindNesting(const std::vector<Ring>& rings, Faults* faults);
+
+// Makes the polygon of rings without faults; else it tells those up to the first kind that there is, or all if that is asked for.
+void ReadSound(const s2ix_rings& given, bool all, S2Polygon* polygon, Faults* faults);
 
 // Makes a polygon of rings with faults. If a fault can't be mended, it is set, and the result is false.
 bool Mend(const s2ix_rings& given, S2Polygon* polygon, s2ix_fault* fault);

@@ -25,21 +25,22 @@ namespace places {
 constexpr size_t kMostCorners = 5'000'000;
 constexpr size_t kMostCells = 1'000'000;
 
-// The point of a latitude and longitude in their ranges. All longitudes of a pole are one point, and so are longitudes 180 and -180, on which points lie
+// The point of a latitude and longitude in their ranges. All longitudes of a pole are one point, and so are longitudes 180 and -180, on
+// which points lie
 // exactly in one plane. Else it is S2's point, but for numbers so near to 0 that S2's products of them would vanish.
 S2Point PointAt(double latitude, double longitude);
 
 // Whether two doubles are a latitude and a longitude in their ranges.
 bool IsPlace(double latitude, double longitude);
 
+// The place of the first that is out of range among many, if there is one.
+std::optional<size_t> FirstWrong(const double* latitudes, const double* longitudes, size_t points);
+
 // The points of many places; none if one is out of range, and then *wrong is the place of the first.
 std::optional<std::vector<S2Point>> PointsAt(const double* latitudes, const double* longitudes, size_t points, size_t* wrong);
 
 // Whether a pointer to some items must not be used.
 inline bool IsMissing(const void* pointer, size_t items) { return pointer == nullptr && items > 0; }
-
-// Writes the polygons of an S2Polygon that is neither empty nor full.
-uint32_t WriteOutline(const S2Polygon& polygon, s2ix_rings_room* outline);
 
 // Runs the body of a call of the C interface, and turns exceptions into statuses.
 template <typename Body>

@@ -14,16 +14,6 @@ namespace {
 
 S2Point PointOf(double latitude, double longitude) { return S2LatLng::FromDegrees(latitude, longitude).ToPoint(); }
 
-// A ring around a place whose corners are at random distances, with no two edges that cross.
-Corners Star(Random* random, double longitude, double latitude, double reach, int corners) {
-  Corners star;
-  for (int at = 0; at < corners; at++) {
-    const double angle = 2 * M_PI * at / corners, away = reach * random->Between(0.5, 1);
-    star.push_back({longitude + away * std::cos(angle), latitude + away * std::sin(angle)});
-  }
-  return star;
-}
-
 std::unique_ptr<S2Polygon> Polygon(const std::vector<Corners>& rings) {
   std::vector<std::unique_ptr<S2Loop>> loops;
   for (const Corners& ring : rings) {
@@ -74,7 +64,8 @@ void CheckCoverings(Random* random, const Pair& pair) {
   Check(std::is_sorted(outer.begin(), outer.end()) && std::is_sorted(inner.begin(), inner.end()), "cells rise");
   size_t missed = 0, beyond = 0;
   for (int at = 0; at < 2000; at++) {
-    const double latitude = pair.latitude + pair.reach * random->Between(-1, 1), longitude = pair.longitude + pair.reach * random->Between(-1, 1);
+    const double latitude = pair.latitude + pair.reach * random->Between(-1, 1), longitude = pair.longitude +
+        pair.reach * random->Between(-1, 1);
     const S2Point point = PointOf(latitude, longitude);
     const bool is_inside = pair.polygon->Contains(point);
     missed += is_inside && !Covers(outer, S2CellId(point));
@@ -120,7 +111,8 @@ void CheckNeighbours() {
   for (const Shape& shape : shapes) given.push_back(shape.get());
   std::vector<double> latitudes, longitudes;
   for (int at = 0; at < 10'000; at++) {
-    // (the east and west sides are meridians, so points of their longitudes lie on the edges but for rounding; the corners lie exactly there)
+    // (the east and west sides are meridians, so points of their longitudes lie on the edges but for rounding; the corners lie exactly
+    // there)
     const size_t side = 1 + random.Below(2);
     double latitude = random.Below(10) ? random.Between(45.5, 50) : heights[1 + random.Below(2)], longitude = sides[side];
     for (size_t steps = random.Below(4); steps > 0; steps--) longitude = std::nextafter(longitude, random.Below(2) ? 90 : 0);
@@ -130,7 +122,8 @@ void CheckNeighbours() {
   std::vector<size_t> ends(latitudes.size());
   std::vector<uint32_t> found(2 * latitudes.size());
   size_t number;
-  const uint32_t status = s2ix_shapes_at_each(given.data(), given.size(), latitudes.data(), longitudes.data(), latitudes.size(), ends.data(),
+  const uint32_t status = s2ix_shapes_at_each(given.data(), given.size(), latitudes.data(), longitudes.data(), latitudes.size(),
+      ends.data(),
                                               found.data(), found.size(), &number);
   size_t wrong = 0;
   for (size_t at = 0; at < ends.size(); at++) wrong += ends[at] != at + 1;
@@ -171,7 +164,8 @@ void CheckPoints() {
 
   const auto inside = std::make_unique<bool[]>(points_of.size());
   Check(s2ix_shapes_hold_each(shapes.data(), shapes.size(), latitudes.data(), longitudes.data(), latitudes.size(), points_of.data(),
-                              shapes_of.data(), points_of.size(), inside.get(), &number) == S2IX_PLACES_DONE && number == 0, "pairs are answered");
+                              shapes_of.data(), points_of.size(), inside.get(), &number) == S2IX_PLACES_DONE && number == 0,
+                                  "pairs are answered");
   wrong = 0;
   for (size_t at = 0; at < points_of.size(); at++) {
     const auto begin = found.begin() + (at == 0 ? 0 : ends[at - 1]), end = found.begin() + ends[at];
@@ -209,7 +203,8 @@ void CheckOutlines() {
   Random random(13);
   for (int at = 0; at < 60; at++) {
     std::vector<uint64_t> cells;
-    const S2CellId start = S2CellId(PointOf(random.Between(-90, 90), random.Between(-180, 180))).parent(static_cast<int>(2 + random.Below(20)));
+    const S2CellId start = S2CellId(PointOf(random.Between(-90, 90), random.Between(-180, 180))).parent(static_cast<int>(2 +
+        random.Below(20)));
     for (size_t left = 1 + random.Below(40); left > 0; left--) {
       const int level = std::min(30, start.level() + static_cast<int>(random.Below(6)));
       cells.push_back(start.child_begin(30).advance(static_cast<int64_t>(random.Below(start.lsb()))).parent(level).id());

@@ -2,6 +2,7 @@
 #ifndef TESTS_FROM_PLACES_CHECKS_H
 #define TESTS_FROM_PLACES_CHECKS_H
 
+#include <cmath>
 #include <cstdint>
 #include <cstdio>
 #include <memory>
@@ -76,6 +77,20 @@ inline Read ReadShape(const Given& given, bool mend = false) {
 inline std::string FaultName(const s2ix_fault& fault) {
   return "fault " + std::to_string(fault.kind) + " at ring " + std::to_string(fault.ring) + " corner " + std::to_string(fault.corner) +
          " and ring " + std::to_string(fault.other_ring) + " corner " + std::to_string(fault.other_corner);
+}
+
+inline std::vector<s2ix_fault> FaultsOf(const Given& given) {
+  const s2ix_rings rings = given.rings();
+  size_t number = 0;
+  uint32_t status = s2ix_rings_faults(&rings, nullptr, 0, &number);
+  std::vector<s2ix_fault> faults(number);
+  if (status == S2IX_PLACES_NO_ROOM) status = s2ix_rings_faults(&rings, faults.data(), number, &number);
+  Check(status == S2IX_PLACES_DONE && number == faults.size(), "faults are listed");
+  return faults;
+}
+
+inline bool AreEqual(const s2ix_fault& a, const s2ix_fault& b) {
+  return a.kind == b.kind && a.ring == b.ring && a.corner == b.corner && a.other_ring == b.other_ring && a.other_corner == b.other_corner;
 }
 
 // A shape that must be sound.
@@ -153,6 +168,16 @@ class Random {
   std::mt19937_64 engine_;
 };
 
+// A ring around a place whose corners are at random distances, with no two edges that cross. It may go over the date line.
+inline Corners Star(Random* random, double longitude, double latitude, double reach, int corners) {
+  Corners star;
+  for (int at = 0; at < corners; at++) {
+    const double angle = 2 * M_PI * at / corners, away = reach * random->Between(0.5, 1);
+    star.push_back({std::remainder(longitude + away * std::cos(angle), 360), latitude + away * std::sin(angle)});
+  }
+  return star;
+}
+
 // The groups of checks.
 void ReadsShapes();
 void FindsFaults();
@@ -160,7 +185,12 @@ void MendsFaults();
 void CoversShapes();
 void FindsPoints();
 void DrawsOutlines();
+void ListsAllFaults();
+void AnswersFromSets();
+void RefusesSets();
+void CutsOutlines();
+void UsesTheCppHeader();
 void RefusesWhatIsWrong();
-void SurvivesMutants();
+void SurvivesMutants(int mutants);
 
 #endif

@@ -1,16 +1,23 @@
-// Runs all checks of the library of places. The last line is 'N passed, M failed'.
+// Runs all checks of the library of places, with 20,000 mutants or as many as the word says. The last line is 'N passed, M failed'.
+#include <cstdlib>
+
 #include "checks.h"
 
-int main() {
+int main(int words, char** word) {
   std::setvbuf(stdout, nullptr, _IOLBF, 0);
   ReadsShapes();
   FindsFaults();
+  ListsAllFaults();
   MendsFaults();
   CoversShapes();
   FindsPoints();
+  AnswersFromSets();
   DrawsOutlines();
+  CutsOutlines();
+  UsesTheCppHeader();
   RefusesWhatIsWrong();
-  SurvivesMutants();
+  RefusesSets();
+  SurvivesMutants(words > 1 ? std::atoi(word[1]) : 20'000);
   std::printf("%zu passed, %zu failed\n", passed, failed);
   return failed > 0;
 }

@@ -80,35 +80,47 @@ void RefusesPoints() {
   const double latitudes[] = {5, 6, 7}, longitudes[] = {5, 6, 70};
   size_t ends[3], number = 9;
   uint32_t found[8];
-  Check(s2ix_shapes_at_each(shapes, 2, latitudes, longitudes, 3, ends, found, 8, &number) == S2IX_PLACES_DONE && number == 4 && ends[2] == 4 &&
+  Check(s2ix_shapes_at_each(shapes, 2, latitudes, longitudes, 3, ends, found, 8, &number) == S2IX_PLACES_DONE && number == 4 &&
+      ends[2] == 4 &&
             found[0] == 0 && found[1] == 1, "a repeated shape comes twice");
-  Check(s2ix_shapes_at_each(shapes, 2, latitudes, longitudes, 3, ends, found, 3, &number) == S2IX_PLACES_NO_ROOM && number == 4, "too little room");
-  Check(s2ix_shapes_at_each(shapes, 2, latitudes, longitudes, 3, ends, nullptr, 0, &number) == S2IX_PLACES_NO_ROOM && number == 4, "no room");
-  Check(s2ix_shapes_at_each(nullptr, 0, latitudes, longitudes, 3, ends, nullptr, 0, &number) == S2IX_PLACES_DONE && ends[2] == 0, "no shapes");
+  Check(s2ix_shapes_at_each(shapes, 2, latitudes, longitudes, 3, ends, found, 3, &number) == S2IX_PLACES_NO_ROOM && number == 4,
+      "too little room");
+  Check(s2ix_shapes_at_each(shapes, 2, latitudes, longitudes, 3, ends, nullptr, 0, &number) == S2IX_PLACES_NO_ROOM && number == 4,
+      "no room");
+  Check(s2ix_shapes_at_each(nullptr, 0, latitudes, longitudes, 3, ends, nullptr, 0, &number) == S2IX_PLACES_DONE && ends[2] == 0,
+      "no shapes");
   Check(s2ix_shapes_at_each(shapes, 2, nullptr, nullptr, 0, nullptr, nullptr, 0, &number) == S2IX_PLACES_DONE && number == 0, "no points");
   Check(s2ix_shapes_at_each(missing, 2, latitudes, longitudes, 3, ends, found, 8, &number) == S2IX_PLACES_NO_POINTER, "a missing shape");
   Check(s2ix_shapes_at_each(shapes, kHuge, latitudes, longitudes, 3, ends, found, 8, &number) == S2IX_PLACES_TOO_LARGE, "too many shapes");
-  Check(s2ix_shapes_at_each(nullptr, 2, latitudes, longitudes, 3, ends, found, 8, &number) == S2IX_PLACES_NO_POINTER, "no pointer to shapes");
+  Check(s2ix_shapes_at_each(nullptr, 2, latitudes, longitudes, 3, ends, found, 8, &number) == S2IX_PLACES_NO_POINTER,
+      "no pointer to shapes");
   Check(s2ix_shapes_at_each(shapes, 2, nullptr, longitudes, 3, ends, found, 8, &number) == S2IX_PLACES_NO_POINTER, "no latitudes");
   Check(s2ix_shapes_at_each(shapes, 2, latitudes, longitudes, 3, nullptr, found, 8, &number) == S2IX_PLACES_NO_POINTER, "no ends");
   for (double wrong : {nan, 90.0000001, -1e300, HUGE_VAL}) {
     const double bad[] = {5, 6, wrong};
-    Check(s2ix_shapes_at_each(shapes, 2, bad, longitudes, 3, ends, found, 8, &number) == S2IX_PLACES_NO_POINT && number == 2, "no latitude");
+    Check(s2ix_shapes_at_each(shapes, 2, bad, longitudes, 3, ends, found, 8, &number) == S2IX_PLACES_NO_POINT && number == 2,
+        "no latitude");
   }
   const double around[] = {5, 181, 5};
-  Check(s2ix_shapes_at_each(shapes, 2, latitudes, around, 3, ends, found, 8, &number) == S2IX_PLACES_NO_POINT && number == 1, "no longitude");
+  Check(s2ix_shapes_at_each(shapes, 2, latitudes, around, 3, ends, found, 8, &number) == S2IX_PLACES_NO_POINT && number == 1,
+      "no longitude");
 
   const uint32_t points_of[] = {0, 2, 3}, shapes_of[] = {1, 0, 0}, beyond[] = {0, 2, 0};
   bool inside[3] = {false, true, true};
-  Check(s2ix_shapes_hold_each(shapes, 2, latitudes, longitudes, 3, points_of, shapes_of, 2, inside, &number) == S2IX_PLACES_DONE && inside[0] &&
+  Check(s2ix_shapes_hold_each(shapes, 2, latitudes, longitudes, 3, points_of, shapes_of, 2, inside, &number) == S2IX_PLACES_DONE &&
+      inside[0] &&
             !inside[1] && inside[2], "two pairs");
-  Check(s2ix_shapes_hold_each(shapes, 2, latitudes, longitudes, 3, points_of, shapes_of, 3, inside, &number) == S2IX_PLACES_NO_SHAPE && number == 2,
+  Check(s2ix_shapes_hold_each(shapes, 2, latitudes, longitudes, 3, points_of, shapes_of, 3, inside, &number) == S2IX_PLACES_NO_SHAPE &&
+      number == 2,
         "a pair without a point");
-  Check(s2ix_shapes_hold_each(shapes, 2, latitudes, longitudes, 3, shapes_of, beyond, 3, inside, &number) == S2IX_PLACES_NO_SHAPE && number == 1,
+  Check(s2ix_shapes_hold_each(shapes, 2, latitudes, longitudes, 3, shapes_of, beyond, 3, inside, &number) == S2IX_PLACES_NO_SHAPE &&
+      number == 1,
         "a pair without a shape");
-  Check(s2ix_shapes_hold_each(shapes, 2, latitudes, around, 3, points_of, shapes_of, 3, inside, &number) == S2IX_PLACES_NO_POINT && number == 1,
+  Check(s2ix_shapes_hold_each(shapes, 2, latitudes, around, 3, points_of, shapes_of, 3, inside, &number) == S2IX_PLACES_NO_POINT &&
+      number == 1,
         "a wrong point comes before a wrong pair");
-  Check(s2ix_shapes_hold_each(shapes, 2, latitudes, longitudes, 3, nullptr, shapes_of, 2, inside, &number) == S2IX_PLACES_NO_POINTER, "no pairs");
+  Check(s2ix_shapes_hold_each(shapes, 2, latitudes, longitudes, 3, nullptr, shapes_of, 2, inside, &number) == S2IX_PLACES_NO_POINTER,
+      "no pairs");
 }
 
 void RefusesOutlines() {
@@ -116,7 +128,8 @@ void RefusesOutlines() {
   double latitudes[5] = {7}, longitudes[5];
   size_t rings[1], polygons[1], wrong = 9;
   s2ix_rings_room room = {latitudes, longitudes, 4, 0, rings, 1, 0, polygons, 1, 0};
-  Check(s2ix_shape_outline(box.get(), &room) == S2IX_PLACES_NO_ROOM && room.corners == 5 && latitudes[0] == 7, "too little room for corners");
+  Check(s2ix_shape_outline(box.get(), &room) == S2IX_PLACES_NO_ROOM && room.corners == 5 && latitudes[0] == 7,
+      "too little room for corners");
   room.corner_room = 5;
   room.ring_room = 0;
   Check(s2ix_shape_outline(box.get(), &room) == S2IX_PLACES_NO_ROOM && room.rings == 1 && latitudes[0] == 7, "too little room for rings");
@@ -127,7 +140,8 @@ void RefusesOutlines() {
   Check(s2ix_shape_outline(box.get(), nullptr) == S2IX_PLACES_NO_POINTER, "no outline");
   for (uint64_t number : {uint64_t{0}, uint64_t{2}, uint64_t{0xffffffffffffffff}, uint64_t{0xd000000000000000}}) {
     const uint64_t cells[] = {0x1000000000000000, number};
-    Check(s2ix_cells_outline(cells, 2, &room, &wrong) == S2IX_PLACES_NO_CELL && wrong == 1 && room.corners == 0, "a number that is no cell's");
+    Check(s2ix_cells_outline(cells, 2, &room, &wrong) == S2IX_PLACES_NO_CELL && wrong == 1 && room.corners == 0,
+        "a number that is no cell's");
   }
   const uint64_t cell = 0x1000000000000000;
   Check(s2ix_cells_outline(&cell, kHuge, &room, &wrong) == S2IX_PLACES_TOO_LARGE, "too many cells");
@@ -140,7 +154,8 @@ void TellsInWords() {
   uint8_t text[128];
   size_t number = 0;
   for (auto call : {s2ix_places_status_text, s2ix_fault_text}) {
-    for (uint32_t code = 0; code < 80; code++) Check(call(code, text, sizeof text, &number) == S2IX_PLACES_DONE && number > 0, "words of a code");
+    for (uint32_t code = 0; code < 80; code++) Check(call(code, text, sizeof text, &number) == S2IX_PLACES_DONE && number > 0,
+        "words of a code");
     Check(call(4'000'000'000, text, sizeof text, &number) == S2IX_PLACES_DONE, "words of no code");
     Check(call(0, text, 3, &number) == S2IX_PLACES_NO_ROOM && number > 3, "too little room for words");
     Check(call(0, nullptr, 3, &number) == S2IX_PLACES_NO_POINTER, "no text");
@@ -202,6 +217,19 @@ void Use(const s2ix_shape* shape) {
   Cells(s2ix_shape_cover, shape, 8, 0, 30);
   Cells(s2ix_shape_cover_inside, shape, 4, 0, 12);
   Has(shape, 45, 15);
+  Outline cut;
+  Check(cut.Fill([shape](s2ix_rings_room* into) { return s2ix_shape_outline_cut(shape, into); }) == status, "a mutant's outline is cut");
+  s2ix_shape_set* set = nullptr;
+  const uint32_t number = 1;
+  const double latitudes[] = {45, 75, -15}, longitudes[] = {15, 15, 175};
+  size_t ends[3], len = 0;
+  uint32_t found[3];
+  Check(s2ix_shape_set_new(9, &set) == S2IX_PLACES_DONE && s2ix_shape_set_put(set, &number, &shape, 1) == S2IX_PLACES_DONE &&
+            s2ix_shape_set_at_each(set, latitudes, longitudes, 3, ends, found, 3, &len) == S2IX_PLACES_DONE, "a mutant is in a set");
+  for (size_t at = 0; at < 3; at++) {
+    Check(Has(shape, latitudes[at], longitudes[at]) == (ends[at] > (at == 0 ? 0 : ends[at - 1])), "a set answers as its mutant");
+  }
+  s2ix_shape_set_free(set);
 }
 
 }  // namespace
@@ -214,22 +242,25 @@ void RefusesWhatIsWrong() {
   TellsInWords();
 }
 
-void SurvivesMutants() {
+void SurvivesMutants(int mutants) {
   Random random(19);
   const std::vector<Given> seeds = Seeds();
   size_t sound = 0, mended = 0, refused = 0;
-  for (int at = 0; at < 20'000; at++) {
+  for (int at = 0; at < mutants; at++) {
     Given given = seeds[random.Below(seeds.size())];
     for (size_t left = 1 + random.Below(4); left > 0; left--) Mutate(&random, &given);
     const Read plain = ReadShape(given), other = ReadShape(given, true);
     const bool is_sound = plain.status == S2IX_PLACES_DONE, is_mended = other.status == S2IX_PLACES_DONE;
     const bool is_told = is_sound ? plain.fault.kind == 0 && is_mended && other.fault.kind == 0
-                                  : plain.status == S2IX_PLACES_FAULTY && plain.fault.kind > 0 && (is_mended || other.status == S2IX_PLACES_FAULTY);
+                                  : plain.status == S2IX_PLACES_FAULTY && plain.fault.kind > 0 && (is_mended ||
+                                      other.status == S2IX_PLACES_FAULTY);
     Check(is_told && (plain.shape != nullptr) == is_sound && (other.shape != nullptr) == is_mended, "a mutant is read or its fault told");
+    const std::vector<s2ix_fault> faults = FaultsOf(given);
+    Check(faults.empty() == is_sound && (is_sound || AreEqual(faults.front(), plain.fault)), "all faults of a mutant, the first first");
     if (is_sound && at % 4 == 0) Use(plain.shape.get());
     if (is_mended && at % 4 == 1) Use(other.shape.get());
     (is_sound ? sound : is_mended ? mended : refused)++;
   }
-  Check(sound > 500 && mended > 500 && refused > 500, "mutants are sound, mended and refused: " + std::to_string(sound) + ", " +
+  Check(sound > 100 && mended > 100 && refused > 100, "mutants are sound, mended and refused: " + std::to_string(sound) + ", " +
                                                           std::to_string(mended) + ", " + std::to_string(refused));
 }

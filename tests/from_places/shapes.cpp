@@ -42,7 +42,8 @@ void ReadsHoles() {
     Check(Has(shape.get(), 42, 12) && !Has(shape.get(), 45, 15) && !Has(shape.get(), 45, 21), "a hole is left out");
     Check(PolygonsOf(shape.get(), 2, "a hole") == 1, "a polygon with a hole is one");
   }
-  const Shape island = Sound(Given().Ring(outer).Ring(inner).Next().Ring(Box(14, 44, 16, 46)).Next().Ring(Box(30, 40, 31, 41)), "an island");
+  const Shape island = Sound(Given().Ring(outer).Ring(inner).Next().Ring(Box(14, 44, 16, 46)).Next().Ring(Box(30, 40, 31, 41)),
+      "an island");
   Check(Has(island.get(), 45, 15) && !Has(island.get(), 43.5, 13.5) && Has(island.get(), 40.5, 30.5), "an island in a hole is inside");
   Check(PolygonsOf(island.get(), 4, "an island") == 3, "an island is a polygon");
   Sound(Given().Ring(outer).Ring({{10, 40}, {15, 43}, {14, 46}}), "a hole that touches the outer ring");
@@ -51,7 +52,8 @@ void ReadsHoles() {
 
 void ReadsOverTheDateLine() {
   const Shape whole = Sound(Given().Ring({{170, -20}, {180, -22}, {-170, -20}, {-170, -10}, {-180, -9}, {170, -10}}), "over the date line");
-  Check(Has(whole.get(), -15, 180) && Has(whole.get(), -15, -180) && Has(whole.get(), -15, -175) && !Has(whole.get(), -15, 0), "it is small");
+  Check(Has(whole.get(), -15, 180) && Has(whole.get(), -15, -180) && Has(whole.get(), -15, -175) && !Has(whole.get(), -15, 0),
+      "it is small");
   const Corners east = {{170, -20}, {180, -22}, {180, -9}, {170, -10}}, west = {{-180, -22}, {-170, -20}, {-170, -10}, {-180, -9}};
   const Shape cut = Sound(Given().Ring(east).Next().Ring(west), "cut at the date line");
   CheckAlike(whole.get(), cut.get(), "cut at the date line");
@@ -116,15 +118,17 @@ void ReadsAroundPoles() {
 void CheckFault(const Given& given, const s2ix_fault& wanted, const std::string& what) {
   const Read read = ReadShape(given);
   const s2ix_fault& fault = read.fault;
-  const bool is_same = fault.kind == wanted.kind && fault.ring == wanted.ring && fault.corner == wanted.corner &&
-                       fault.other_ring == wanted.other_ring && fault.other_corner == wanted.other_corner;
-  Check(read.status == S2IX_PLACES_FAULTY && !read.shape && is_same, what + ": status " + std::to_string(read.status) + ", " + FaultName(fault));
+  const std::vector<s2ix_fault> all = FaultsOf(given);
+  const bool is_same = AreEqual(fault, wanted) && !all.empty() && AreEqual(all.front(), wanted);
+  Check(read.status == S2IX_PLACES_FAULTY && !read.shape && is_same, what + ": status " + std::to_string(read.status) + ", " +
+      FaultName(fault));
 }
 
 // What must be mended, and tells the first fault all the same.
 Shape Mended(const Given& given, uint32_t kind, const std::string& what) {
   Read read = ReadShape(given, true);
-  Check(read.status == S2IX_PLACES_DONE && read.shape && read.fault.kind == kind, what + ": status " + std::to_string(read.status) + ", " + FaultName(read.fault));
+  Check(read.status == S2IX_PLACES_DONE && read.shape && read.fault.kind == kind, what + ": status " + std::to_string(read.status) +
+      ", " + FaultName(read.fault));
   return std::move(read.shape);
 }
 
@@ -155,17 +159,22 @@ void FindsFaults() {
   CheckFault(Given().Raw({{1, 1}}), {S2IX_FAULT_TOO_FEW, 0, 0, 0, 0}, "one corner");
   CheckFault(Given().Ring(far).Ring({{22, 2}, {23, 3}}), {S2IX_FAULT_TOO_FEW, 1, 2, 1, 2}, "two corners");
   CheckFault(Given().Ring({{0, 0}, {10, 0}, {10, 0}, {10, 10}}), {S2IX_FAULT_REPEATED, 0, 1, 0, 2}, "a corner twice");
-  CheckFault(Given().Ring({{0, 0}, {10, 0}, {5, 5}, {10, 10}, {0, 10}, {5, 5}}), {S2IX_FAULT_REPEATED, 0, 2, 0, 5}, "a ring that touches itself");
-  CheckFault(Given().Ring({{180, 0}, {180, 5}, {170, 5}, {180, 0}}), {S2IX_FAULT_REPEATED, 0, 0, 0, 3}, "a corner twice on one side of the seam");
+  CheckFault(Given().Ring({{0, 0}, {10, 0}, {5, 5}, {10, 10}, {0, 10}, {5, 5}}), {S2IX_FAULT_REPEATED, 0, 2, 0, 5},
+      "a ring that touches itself");
+  CheckFault(Given().Ring({{180, 0}, {180, 5}, {170, 5}, {180, 0}}), {S2IX_FAULT_REPEATED, 0, 0, 0, 3},
+      "a corner twice on one side of the seam");
   CheckFault(Given().Ring({{0, 0}, {180, 0}, {90, 45}}), {S2IX_FAULT_OPPOSITE, 0, 0, 0, 0}, "opposite corners");
   CheckFault(Given().Ring(Box(-180, -90, 180, 90)), {S2IX_FAULT_OPPOSITE, 0, 1, 0, 1}, "the whole earth as a box");
   CheckFault(Given().Ring(kBowTie), {S2IX_FAULT_CROSSING, 0, 0, 0, 2}, "a bow tie");
   CheckFault(Given().Ring(far).Next().Ring(kBowTie), {S2IX_FAULT_CROSSING, 1, 0, 1, 2}, "a bow tie in the second polygon");
-  CheckFault(Given().Ring(box).Next().Ring(far).Next().Ring(Box(5, 5, 15, 15)), {S2IX_FAULT_CROSSING, 0, 1, 2, 0}, "two polygons that cross");
+  CheckFault(Given().Ring(box).Next().Ring(far).Next().Ring(Box(5, 5, 15, 15)), {S2IX_FAULT_CROSSING, 0, 1, 2, 0},
+      "two polygons that cross");
   CheckFault(Given().Ring(box).Ring(Box(5, 5, 15, 8)), {S2IX_FAULT_CROSSING, 0, 1, 1, 0}, "a hole that leaves its polygon");
-  CheckFault(Given().Ring({{0, 0}, {4, 0}, {4, 4}, {0, 4}}).Next().Ring({{4, 0}, {8, 2}, {4, 4}, {2, 2}}), {S2IX_FAULT_CROSSING, 0, 1, 1, 0},
+  CheckFault(Given().Ring({{0, 0}, {4, 0}, {4, 4}, {0, 4}}).Next().Ring({{4, 0}, {8, 2}, {4, 4}, {2, 2}}), {S2IX_FAULT_CROSSING, 0, 1, 1,
+      0},
              "two polygons that cross in corners");
-  CheckFault(Given().Ring(box).Next().Ring({{10, 0}, {20, 0}, {20, 10}, {10, 10}}), {S2IX_FAULT_SHARED, 0, 1, 1, 3}, "two polygons with an edge");
+  CheckFault(Given().Ring(box).Next().Ring({{10, 0}, {20, 0}, {20, 10}, {10, 10}}), {S2IX_FAULT_SHARED, 0, 1, 1, 3},
+      "two polygons with an edge");
   CheckFault(Given().Ring(box).Ring(box), {S2IX_FAULT_SHARED, 0, 0, 1, 0}, "a hole that is its polygon");
   CheckFault(Given().Ring(box).Ring(far), {S2IX_FAULT_OUTSIDE, 1, 0, 1, 0}, "a hole outside");
   CheckFault(Given().Ring(box).Ring(Box(1, 1, 9, 9)).Ring(Box(2, 2, 3, 3)), {S2IX_FAULT_WITHIN, 1, 0, 2, 0}, "a hole in a hole");
@@ -174,6 +183,38 @@ void FindsFaults() {
   CheckFault(Given().Ring(box).Next(), {S2IX_FAULT_EMPTY, 1, 0, 1, 0}, "a polygon without rings");
   CheckFault(Given().Ring({{180, 0}, {180, 5}, {180, 9}}), {S2IX_FAULT_EMPTY, 0, 0, 0, 0}, "a ring along the seam");
   CheckFault(Given().Ring({{-180, 90}, {0, 90}, {180, 90}}), {S2IX_FAULT_TOO_FEW, 0, 2, 0, 2}, "a ring at a pole");
+}
+
+void ListsAllFaults() {
+  const auto list = [](const Given& given, const std::vector<s2ix_fault>& wanted, const std::string& what) {
+    const std::vector<s2ix_fault> faults = FaultsOf(given);
+    bool is_same = faults.size() == wanted.size();
+    for (size_t at = 0; is_same && at < wanted.size(); at++) is_same = AreEqual(faults[at], wanted[at]);
+    std::string told;
+    for (const s2ix_fault& fault : faults) told += ", " + FaultName(fault);
+    Check(is_same, what + told);
+  };
+  const double nan = std::numeric_limits<double>::quiet_NaN();
+  const Corners far = Box(40, 0, 50, 10);
+  list(Given().Ring(far), {}, "a box has no faults");
+  list(Given().Ring({{0, nan}, {0, 95}, {190, 1}}).Next().Raw(far).Next().Ring({{60, 0}, {70, 0}, {70, 0}, {70, 9}}).Next().Ring(kBowTie),
+       {{S2IX_FAULT_NOT_FINITE, 0, 0, 0, 0}, {S2IX_FAULT_LATITUDE, 0, 1, 0, 1}, {S2IX_FAULT_LONGITUDE, 0, 2, 0, 2},
+        {S2IX_FAULT_NOT_FINITE, 0, 3, 0, 3}, {S2IX_FAULT_OPEN, 1, 3, 1, 3}, {S2IX_FAULT_REPEATED, 2, 1, 2, 2},
+        {S2IX_FAULT_CROSSING, 3, 0, 3, 2}}, "faults of four rings");
+  list(Given().Ring(Box(0, 0, 10, 10)).Ring(far).Next().Ring(Box(2, 2, 3, 3)),
+       {{S2IX_FAULT_WITHIN, 0, 0, 2, 0}, {S2IX_FAULT_OUTSIDE, 1, 0, 1, 0}}, "a hole outside and a polygon within");
+  list(Given().Ring(kBowTie).Next().Ring({{20, 0}, {30, 10}, {30, 0}, {20, 10}}).Next().Ring(far).Next().Ring(far),
+       {{S2IX_FAULT_SHARED, 2, 0, 3, 0}, {S2IX_FAULT_SHARED, 2, 1, 3, 1}, {S2IX_FAULT_SHARED, 2, 2, 3, 2}, {S2IX_FAULT_SHARED, 2, 3, 3, 3},
+        {S2IX_FAULT_CROSSING, 0, 0, 0, 2}, {S2IX_FAULT_CROSSING, 1, 0, 1, 2}}, "two bow ties and a box twice");
+  list(Given().Ring({{180, 0}, {180, 5}, {180, 9}}), {{S2IX_FAULT_EMPTY, 0, 0, 0, 0}}, "a ring along the seam");
+  const s2ix_rings rings = Given().rings();
+  size_t number = 9;
+  Check(s2ix_rings_faults(&rings, nullptr, 0, nullptr) == S2IX_PLACES_NO_POINTER, "nowhere to put how many there are");
+  Check(s2ix_rings_faults(nullptr, nullptr, 0, &number) == S2IX_PLACES_NO_POINTER, "no rings");
+  Corners comb;
+  for (int tooth = 0; tooth < 120; tooth++) comb.push_back({tooth * 0.1, 0}), comb.push_back({tooth * 0.1 + 0.05, 10});
+  for (int tooth = 120; tooth > 0; tooth--) comb.push_back({15, tooth * 0.08}), comb.push_back({-1, tooth * 0.08 - 0.04});
+  Check(FaultsOf(Given().Ring(comb)).size() > 1000 && FaultsOf(Given().Ring(comb)).size() <= 10'000, "10,000 faults at most");
 }
 
 void MendsFaults() {
@@ -197,10 +238,13 @@ void MendsFaults() {
   alike(Given().Ring(Box(0, 0, 10, 10)).Next().Ring({{2, 2}, {3, 3}}), S2IX_FAULT_TOO_FEW, "a polygon of two corners");
   alike(Given().Ring(Box(0, 0, 10, 10)).Next().Ring(Box(2, 2, 3, 3)), S2IX_FAULT_WITHIN, "a polygon in a polygon");
   const Shape joined = Mended(Given().Ring(Box(0, 0, 10, 10)).Next().Ring(Box(5, 5, 15, 15)), S2IX_FAULT_CROSSING, "two boxes");
-  Check(Has(joined.get(), 1, 1) && Has(joined.get(), 7, 7) && Has(joined.get(), 12, 12) && !Has(joined.get(), 12, 2), "two boxes become one");
+  Check(Has(joined.get(), 1, 1) && Has(joined.get(), 7, 7) && Has(joined.get(), 12, 12) && !Has(joined.get(), 12, 2),
+      "two boxes become one");
   Check(PolygonsOf(joined.get(), 1, "two boxes") == 1, "two boxes become one polygon");
-  const Shape bitten = Mended(Given().Ring(Box(0, 0, 10, 10)).Ring(Box(5, 2, 15, 8)), S2IX_FAULT_CROSSING, "a hole that leaves its polygon");
-  Check(Has(bitten.get(), 5, 2) && !Has(bitten.get(), 5, 7) && !Has(bitten.get(), 5, 12), "a hole that leaves its polygon takes nothing outside");
+  const Shape bitten = Mended(Given().Ring(Box(0, 0, 10, 10)).Ring(Box(5, 2, 15, 8)), S2IX_FAULT_CROSSING,
+      "a hole that leaves its polygon");
+  Check(Has(bitten.get(), 5, 2) && !Has(bitten.get(), 5, 7) && !Has(bitten.get(), 5, 12),
+      "a hole that leaves its polygon takes nothing outside");
   const Shape over = Mended(Given().Ring(Box(170, 0, 190, 10)), S2IX_FAULT_LONGITUDE, "longitudes past the date line");
   Check(Has(over.get(), 5, 180) && Has(over.get(), 5, -175) && !Has(over.get(), 5, 0), "longitudes past the date line");
   const Shape halves = Mended(Given().Raw(Box(170, 0, 180, 10)).Next().Ring(Box(-180, 0, -170, 10)), S2IX_FAULT_OPEN, "an open half");
