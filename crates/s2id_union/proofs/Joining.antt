@@ -1,5 +1,5 @@
 -- Cells in the order of their first leaves, joined to spans.
-use Rattle.std.proofs.Common.{◌≡◌, ◌↔◌, ℕ, ◌+◌, ◌%◌, ◌<◌, ◌≤◌, ◌⊎◌, inl, inr, List, [], ◌∷◌, ◌++◌, length, get_or, take, sym, ◌∙◌, ap, arith, subst}
+use Rattle.std.proofs.Common.{◌≡◌, ◌↔◌, ℕ, ◌+◌, ◌-◌, ◌%◌, ◌<◌, ◌≤◌, ◌⊎◌, inl, inr, List, [], ◌∷◌, ◌++◌, length, get_or, take, sym, ◌∙◌, ap, arith, subst}
 use Rattle.std.specs.List.Sorted.{IsNonDecreasingBy, IsPermutation}
 use Rattle.std.proofs.lemmas.Bool.{cases_lt}
 use Rattle.std.proofs.lemmas.List.{get_or_default, take_more, take_all}
@@ -156,3 +156,42 @@ joined_next_no_gap sorted cells next k start at start_next at_next h rise most o
       elim which [ inl a ↦ omega arith | inr a ↦ omega arith ],
       omega arith,
     )
+
+-- ---- whether cells are in order
+
+-- the first k cells are in the order of their first leaves, and `before` is where the last of them begins, or 0
+abbrev pub AreInOrderTo : List CellId → ℕ → ℕ → Type 0
+AreInOrderTo cells k before =
+    ((i j : ℕ) (d : CellId) → i ≤ j → j < k → first_of (get_or cells i d) ≤ first_of (get_or cells j d))
+    × (k ≡ 0 → before ≡ 0)
+    × ((d : CellId) → 0 < k → before ≡ first_of (get_or cells (k - 1) d))
+
+-- one more cell of the list, which begins no earlier
+pub in_order_next : (cells : List CellId) (k before first : ℕ) (x : CellId) → AreInOrderTo cells k before → k < length cells
+    → x ≡ get_or cells k x → first ≡ first_of x → before ≤ first → AreInOrderTo cells (k + 1) first
+in_order_next cells k before first x h l is begins later = (whole, (λ none. absurd (omega arith)), λ d _. subst (λ n. first ≡ first_of (get_or cells n d)) (let e : k ≡ k + 1 - 1 = omega arith in e) (begins ∙ read d))
+  where
+    read : (d : CellId) → first_of x ≡ first_of (get_or cells k d)
+    read d = ap (λ (c : CellId). first_of c) (is ∙ get_or_default cells k x d l)
+
+    last : (i : ℕ) (d : CellId) → i ≤ k → first_of (get_or cells i d) ≤ first_of (get_or cells k d)
+    last i d le =
+        let e = read d in
+        elim (cases_lt i k) [
+          | inl below ↦
+              let a = h.0 i (k - 1) d (omega arith) (omega arith) in
+              let b = h.2 d (omega arith) in
+              omega arith
+          | inr past ↦
+              let same : k ≡ i = omega arith in
+              subst (λ n. first_of (get_or cells n d) ≤ first_of (get_or cells k d)) same (omega arith)
+        ]
+
+    whole : (i j : ℕ) (d : CellId) → i ≤ j → j < k + 1 → first_of (get_or cells i d) ≤ first_of (get_or cells j d)
+    whole i j d le within =
+        elim (cases_lt j k) [
+          | inl below ↦ h.0 i j d le below
+          | inr past ↦
+              let same : k ≡ j = omega arith in
+              subst (λ n. first_of (get_or cells i d) ≤ first_of (get_or cells n d)) same (last i d (omega arith))
+        ]

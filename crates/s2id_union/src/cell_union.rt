@@ -81,7 +81,7 @@ impl CellUnion {
     }
 
     /// The union of the leaves of any cells, in any order and repeated or not (S2's constructor from ids). It never has more cells than were
-    /// given. O(n log n) for n cells given. `OutOfMemory` if a growth is refused.
+    /// given. O(n log n) for n cells given, or O(n) if they come in order. `OutOfMemory` if a growth is refused.
     pub fn normalise(alloc: Global, cells: &[CellId]) -> Result<CellUnion, OutOfMemory>
         ensures region { IfOk result (λ union. HaveSameRegion union cells.now) }
         ensures normal { IfOk result IsNormal }

@@ -5,7 +5,7 @@ use Rattle.s2id_union.proofs.join.join_spans.Goals.{then-at-first+in_ok-add_span
 
 pub loop-cell-init : goal.loop-cell-init
 loop-cell-init c =
-    (joined_start c.args.sorted.now _ c.new-cells.ensures.items, omega arith, omega arith, refl, refl)
+    (joined_start c.args.sorted.now _ c.in_ok-cells.ensures.items, omega arith, omega arith, refl, refl)
 
 pub loop-cell-preserved : goal.loop-cell-preserved
 loop-cell-preserved c =
