@@ -84,7 +84,7 @@ refusal_by bag es None =
     cond (list_any (λ e. nat_lt (count_limit bag.limits) e.after) es) (Some TooManyCopies)
     (cond (nat_lt (pairs_limit bag.limits) (length (changed bag.held es))) (Some TooManyPairs) None)
 
-no_memory_told : (few many : Bool) → cond few (Some TooManyCopies) (cond many (Some TooManyPairs) None) ≡ Some OutOfMemory → ⊥
+no_memory_told : (within_limit many : Bool) → cond within_limit (Some TooManyCopies) (cond many (Some TooManyPairs) None) ≡ Some OutOfMemory → ⊥
 no_memory_told true many is = cc
 no_memory_told false true is = cc
 no_memory_told false false is = cc

@@ -46,12 +46,12 @@ impl Bag {
         }
     }
 
-    /// The bag that holds no pair. As it grows, it is cut into parts of at most `most` pairs each, but at least one; other bags have parts of at
-    /// most 512. It does not allocate.
-    pub fn in_parts_of(_alloc: Global, limits: Limits, most: usize) -> Bag
+    /// The bag that holds no pair. As it grows, it is cut into parts of at most `max_part_len` pairs each, but at least one; other bags have
+    /// parts of at most 512. It does not allocate.
+    pub fn in_parts_of(_alloc: Global, limits: Limits, max_part_len: usize) -> Bag
         ensures { result ≡ record { limits = limits; held = [] } }
     {
-        let lists = FaceLists::in_parts_of(most);
+        let lists = FaceLists::in_parts_of(max_part_len);
         Bag { limits, lists }
     }
 
@@ -131,8 +131,9 @@ impl Bag {
         self.lists.face_at(k)
     }
 
-    /// The pairs held with a label, with their counts, by rising cell. To go through all of them takes O(n) for the n pairs of the whole
-    /// bag, whatever their labels.
+    /// The pairs held with a label, with their counts, by rising cell. To go through all of them takes O(p + k) for p parts and the k pairs of
+    /// those parts that the filters of labels don't rule out. Beside the parts that have the label, these are about one in 100 if a part has 64
+    /// labels, one in 7 if it has 256, and half of them if it has 512.
     pub fn of_label(&self, label: Label) -> LabelIter<'_>
         ensures list { result ≡ held_of label self.now.held }
         ensures within { IsBag self.now }

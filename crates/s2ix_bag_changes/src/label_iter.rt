@@ -7,7 +7,8 @@ use s2ix_bag_pairs::{Held, Label};
 use std::marker::Model;
 
 /// The pairs that a bag holds with one label, with their counts, by rising cell; made by [`Bag::of_label`](crate::Bag::of_label). Contracts
-/// see the list of those still to come. To go through all of them takes O(n) for the n pairs of the whole bag, whatever their labels.
+/// see the list of those still to come. To go through all of them takes O(p + k) for p parts of the bag and the k pairs of those parts that the
+/// filters of labels don't rule out, as `of_label` says.
 #[derive(Clone, Debug, Drop)]
 pub struct LabelIter<'a> {
     label: Label,
@@ -40,11 +41,6 @@ impl<'a> Iterator for LabelIter<'a> {
     ghost remaining = { item_count (λ rest. rest) };
 
     fn next(&mut self) -> Option<Held> {
-        while let Some(held) = self.rest.next() {
-            if held.pair.label == self.label {
-                return Some(held);
-            }
-        }
-        None
+        self.rest.next_of(self.label)
     }
 }

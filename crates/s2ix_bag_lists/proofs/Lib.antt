@@ -1,4 +1,5 @@
 pub mod Applied
+pub mod LabelFilters
 pub mod Lengths
 pub mod Refusals
 pub mod Walks
@@ -16,5 +17,6 @@ pub mod Cuts
 pub mod Running
 pub mod Places
 pub mod Making
+pub mod OfParts
 pub mod Mismatches
 pub mod FaceParts

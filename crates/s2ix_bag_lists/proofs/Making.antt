@@ -32,7 +32,7 @@ pub record IsNext (ahead : List Collection) (rest : List Entry) (rank place own 
   pub below : AreBelow rank (all_of (take place ahead))
   pub from : IsChangeListFrom rank rest
   pub cut : AreEntriesUpTo ahead place rest own
-  pub few : own ≤ length rest
+  pub within_limit : own ≤ length rest
   pub last : place + 1 ≡ length ahead → own ≡ length rest
 
 pub entries_rise_in_front : (n : ℕ) (es fs : List Entry) → IsChangeListFrom n (es ++ fs) → IsChangeListFrom n es

@@ -100,7 +100,7 @@ within_both false limit pairs copies_error pairs_error none =
 pub record IsTaken (bag : LimitedCollection) (es : List Entry) : Type 0 where
   pub before : AreBefore bag.held es
   pub within : AreAfterWithin (count_limit bag.limits) es
-  pub few : length (changed bag.held es) ≤ pairs_limit bag.limits
+  pub within_limit : length (changed bag.held es) ≤ pairs_limit bag.limits
 
 -- the refusal, by the first mismatch
 refusal_at : LimitedCollection → List Entry → Option ℕ → Option ApplyError
@@ -120,7 +120,7 @@ unfolding refusal_at
 refusal_of_taken bag es taken =
     refusal_is bag es None (no_mismatch bag.held es taken.before)
     ∙ cond-false _ _ _ (none_from_within (count_limit bag.limits) es taken.within)
-    ∙ cond-false _ _ _ (le-ltb _ _ taken.few)
+    ∙ cond-false _ _ _ (le-ltb _ _ taken.within_limit)
 
 taken_at : (bag : LimitedCollection) (es : List Entry) (mismatch : Option ℕ) → first_mismatch bag es ≡ mismatch
     → refusal_at bag es mismatch ≡ None → IsTaken bag es
@@ -131,7 +131,7 @@ taken_at bag es None is none =
     record {
       before = before_from_no_mismatch bag.held es is;
       within = within_from_none (count_limit bag.limits) es within.0;
-      few = within.1;
+      within_limit = within.1;
     }
 
 -- a bag takes a change that it does not refuse
@@ -144,7 +144,7 @@ pub made_is_bag : (bag : LimitedCollection) (es : List Entry) → IsBag bag → 
     → IsBag (record { limits = bag.limits; held = changed bag.held es })
 made_is_bag bag es is_bag es_is taken = record {
   rises = changed_keeps bag.held es is_bag.rises es_is;
-  few = taken.few;
+  within_limit = taken.within_limit;
   small = small_changed (count_limit bag.limits) bag.held es taken.within is_bag.small;
 }
 
@@ -177,7 +177,7 @@ inverse_taken bag es is_bag es_is taken =
       before = before_from_counts 0 ks hs (inverse_of es) (inverse_keeps es es_is)
           (λ k le. ap (λ fs. counts_at fs k) back ∙ counts_between_at ks hs k ks_is is_bag.rises);
       within = inverse_within (count_limit bag.limits) hs es is_bag.small taken.before;
-      few = omega (arith, ap length (changed_inverse hs es is_bag.rises es_is taken.before), is_bag.few);
+      within_limit = omega (arith, ap length (changed_inverse hs es is_bag.rises es_is taken.before), is_bag.within_limit);
     }
 
 -- ---- the sum of the counts
@@ -185,7 +185,7 @@ inverse_taken bag es is_bag es_is taken =
 -- it is at most as many times the greatest limit on a count as there may be pairs
 pub copies_bound : (bag : LimitedCollection) → IsBag bag → copies_in bag.held ≤ 4294967295000000
 copies_bound bag is_bag =
-    let pairs : length bag.held ≤ 1000000 = omega (arith, is_bag.few, bag.limits.in_range.1) in
+    let pairs : length bag.held ≤ 1000000 = omega (arith, is_bag.within_limit, bag.limits.in_range.1) in
     let count : count_limit bag.limits ≤ 4294967295 = bag.limits.in_range.3 in
     let most : length bag.held * count_limit bag.limits ≤ 1000000 * 4294967295 = mul-le-mul pairs count in
     omega (arith, sum_by-le (λ (h : Held). h.count) (count_limit bag.limits) bag.held is_bag.small, most)

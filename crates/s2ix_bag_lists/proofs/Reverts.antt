@@ -83,7 +83,7 @@ taken_back_at bag es None is none =
       taken = record {
         before = back_before bag.held es;
         within = back_within (count_limit bag.limits) bag.held es within.0;
-        few = within.1;
+        within_limit = within.1;
       };
     }
 

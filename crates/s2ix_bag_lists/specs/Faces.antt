@@ -42,4 +42,4 @@ pub record AreFaces (lists : List Collection) (len : ℕ) : Type 0 where
   pub six : length lists ≡ 6
   pub apart : AreFacesFrom 0 lists
   pub counted : len ≡ length (all_of lists)
-  pub few : len ≤ 1000000
+  pub within_limit : len ≤ 1000000

@@ -7,8 +7,10 @@ pub use Rattle.s2ix_bag_pairs.specs.Change
 pub use Rattle.s2ix_bag_pairs.specs.Collection
 pub use Rattle.s2ix_bag_pairs.specs.Label
 pub use Rattle.s2ix_bag_pairs.specs.Limits
+pub use Rattle.s2ix_bag_pairs.specs.OfLabel
 pub use Rattle.s2ix_bag_pairs.specs.Pair
 pub use Rattle.s2ix_bag_pairs.specs.Ranges
 pub use Rattle.s2ix_bag_pairs.specs.TakenBack
 pub mod Faces
+pub mod LabelFilter
 pub mod Parts

@@ -28,7 +28,7 @@ pub record AreParts (parts : List Collection) (starts : List ℕ) (len : ℕ) : 
   pub filled : AreFilled parts
   pub counted : starts ≡ starts_from 0 parts
   pub whole : len ≡ length (all_of parts)
-  pub few : len ≤ 1000000
+  pub within_limit : len ≤ 1000000
 
 -- the first entries are those of the parts up to this one: a rank parts both the entries and the pairs
 pub record AreEntriesUpTo (parts : List Collection) (place : ℕ) (es : List Entry) (own : ℕ) : Type 0 where

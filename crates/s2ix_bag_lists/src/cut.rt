@@ -92,19 +92,19 @@ fn common_level(one: &FlatHeld, other: &FlatHeld) -> u8 {
     one.cell().common_level(other.cell()).unwrap_or(0)
 }
 
-// How many pairs the next part takes of those that are left: about three quarters of `most`, which leaves it room to grow.
-fn piece_len(held: &[FlatHeld], ends: &[bool], most: usize) -> usize
+// How many pairs the next part takes of those that are left: about three quarters of `max_part_len`, which leaves it room to grow.
+fn piece_len(held: &[FlatHeld], ends: &[bool], max_part_len: usize) -> usize
     requires as_many { length ends.now ≡ length held.now }
     requires some { 0 < length ends.now }
     ensures some { 0 < result }
     ensures within { result ≤ length ends.now }
 {
-    if ends.len() <= most {
+    if ends.len() <= max_part_len {
         return ends.len();
     }
-    let quarter = most / 4;
-    let usual = most - quarter;
-    if let Some(len) = first_end(ends, usual, most) {
+    let quarter = max_part_len / 4;
+    let usual = max_part_len - quarter;
+    if let Some(len) = first_end(ends, usual, max_part_len) {
         return len;
     }
     if let Some(len) = last_end(ends, quarter, usual) {
@@ -113,17 +113,17 @@ fn piece_len(held: &[FlatHeld], ends: &[bool], most: usize) -> usize
     coarsest_end(held, quarter, usual)
 }
 
-/// Held pairs, cut into parts of at most `most` pairs, but at least one. O(n). `OutOfMemory` if a growth is refused.
+/// Held pairs, cut into parts of at most `max_part_len` pairs, but at least one. O(n). `OutOfMemory` if a growth is refused.
 pub(crate) fn cut(
     alloc: Global,
     held: &[FlatHeld],
-    most: usize,
+    max_part_len: usize,
 ) -> Result<Vec<HeldList>, OutOfMemory>
     ensures whole { IfOk result (λ parts. all_of parts.items ≡ held.now) }
     ensures filled { IfOk result (λ parts. AreFilled parts.items) }
 {
     let ends = clean_ends(alloc, held)?;
-    cut_at(alloc, held, &ends, most)
+    cut_at(alloc, held, &ends, max_part_len)
 }
 
 // The same where it is known with which pairs a part may end.
@@ -131,7 +131,7 @@ fn cut_at(
     alloc: Global,
     held: &[FlatHeld],
     ends: &[bool],
-    most: usize,
+    max_part_len: usize,
 ) -> Result<Vec<HeldList>, OutOfMemory>
     requires { length ends.now ≡ length held.now }
     ensures whole { IfOk result (λ parts. all_of parts.items ≡ held.now) }
@@ -141,9 +141,9 @@ fn cut_at(
     let mut rest = held;
     let mut rest_ends = ends;
     while !rest.is_empty() {
-        let len = piece_len(rest, rest_ends, most);
+        let len = piece_len(rest, rest_ends, max_part_len);
         let (own, later) = rest.split_at(len);
-        parts.push(HeldList::new(alloc, Vec::from_slice(alloc, own)?)?)?;
+        parts.push(HeldList::with_filter(alloc, Vec::from_slice(alloc, own)?)?)?;
         rest = later;
         (_, rest_ends) = rest_ends.split_at(len);
     }
@@ -154,15 +154,15 @@ fn cut_at(
 pub(crate) fn pieces(
     alloc: Global,
     held: Vec<FlatHeld>,
-    most: usize,
+    max_part_len: usize,
 ) -> Result<Vec<HeldList>, OutOfMemory>
     ensures whole { IfOk result (λ parts. all_of parts.items ≡ held.items) }
     ensures filled { IfOk result (λ parts. AreFilled parts.items) }
 {
-    if held.is_empty() || held.len() > most {
-        return cut(alloc, &held, most);
+    if held.is_empty() || held.len() > max_part_len {
+        return cut(alloc, &held, max_part_len);
     }
     let mut parts = Vec::with_capacity(alloc, 1)?;
-    parts.push(HeldList::new(alloc, held)?)?;
+    parts.push(HeldList::with_filter(alloc, held)?)?;
     Ok(parts)
 }

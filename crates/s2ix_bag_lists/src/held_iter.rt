@@ -1,12 +1,13 @@
-ghost use Rattle.std.specs.Prelude.{◌≡◌, ◌++◌, []};
+ghost use Rattle.std.specs.Prelude.{◌≡◌, ◌++◌, ◌<◌, ◌≤◌, [], ◌∷◌, None, length, IfSome};
 ghost use Rattle.std.specs.Iterator.{YieldsFirst, item_count};
 ghost use Rattle.s2ix_bag_lists.specs.Faces.{all_of};
 ghost use Rattle.s2ix_bag_lists.specs.Parts.{AreFilled};
+ghost use Rattle.s2ix_bag_pairs.specs.OfLabel.{held_of};
 
 use crate::flat::FlatHeld;
 use crate::held_list::HeldList;
 use crate::held_parts::HeldParts;
-use s2ix_bag_pairs::Held;
+use s2ix_bag_pairs::{Held, Label};
 use std::marker::Model;
 
 /// The held pairs of a [`FaceLists`](crate::FaceLists) with their counts, in rising order. Contracts see the list of those still to come.
@@ -42,30 +43,94 @@ impl<'a> HeldIter<'a> {
             later: lists,
         }
     }
+
+    /// The next pair with a label; those before it are passed over. A part is read only if the filter of its labels lets the label through:
+    /// O(p + k) up to the end, for p parts and the k pairs of those that are read.
+    pub fn next_of(&mut self, label: Label) -> Option<Held>
+        ensures { YieldsFirst (λ rest. held_of label rest) self.old result self.new }
+    {
+        loop {
+            let found = first_of(&mut self.rest, label);
+            if found.is_some() {
+                return found;
+            }
+            self.rest = next_pairs_with(label, &mut self.parts, &mut self.later);
+            if self.rest.is_empty() {
+                return None;
+            }
+        }
+    }
 }
 
-// The next part, taken from those of the list at hand or of the next list that has one; no pairs if there is none.
+// The next part, taken from those of the list at hand or of the next list that has one.
+fn next_part<'a>(parts: &mut &'a [HeldList], later: &mut &'a [HeldParts]) -> Option<&'a HeldList>
+    requires { AreFilled parts.old.now }
+    ensures next { IfSome result (λ part. all_of parts.old.now ++ all_of later.old.now
+        ≡ part.now ++ (all_of parts.new.now ++ all_of later.new.now)) }
+    ensures some { IfSome result (λ part. 0 < length part.now) }
+    ensures filled { AreFilled parts.new.now }
+    ensures none { result ≡ None → all_of parts.old.now ++ all_of later.old.now ≡ [] }
+    ensures last { result ≡ None → all_of parts.new.now ++ all_of later.new.now ≡ [] }
+{
+    while parts.is_empty() {
+        let (list, lists) = later.split_first()?;
+        *parts = list.parts();
+        *later = lists;
+    }
+    let (part, others) = parts.split_first()?;
+    *parts = others;
+    Some(part)
+}
+
+// The pairs of the next part; no pairs if there is none.
 #[inline(never)]
-fn next_part<'a>(parts: &mut &'a [HeldList], later: &mut &'a [HeldParts]) -> &'a [FlatHeld]
+fn next_pairs<'a>(parts: &mut &'a [HeldList], later: &mut &'a [HeldParts]) -> &'a [FlatHeld]
     requires { AreFilled parts.old.now }
     ensures whole { result.now ++ (all_of parts.new.now ++ all_of later.new.now) ≡ all_of parts.old.now ++ all_of later.old.now }
     ensures filled { AreFilled parts.new.now }
     ensures last { result.now ≡ [] → all_of parts.new.now ++ all_of later.new.now ≡ [] }
 {
-    while parts.is_empty() {
-        let Some((list, lists)) = later.split_first() else {
-            return &[];
-        };
-        *parts = list.parts();
-        *later = lists;
-    }
-    match parts.split_first() {
-        Some((part, others)) => {
-            *parts = others;
-            part.as_slice()
-        }
+    match next_part(parts, later) {
+        Some(part) => part.as_slice(),
         None => &[],
     }
+}
+
+// The pairs of the next part that may have a label, past those that have none with it; no pairs if there is none.
+fn next_pairs_with<'a>(
+    label: Label,
+    parts: &mut &'a [HeldList],
+    later: &mut &'a [HeldParts],
+) -> &'a [FlatHeld]
+    requires { AreFilled parts.old.now }
+    ensures whole { held_of label (result.now ++ (all_of parts.new.now ++ all_of later.new.now))
+        ≡ held_of label (all_of parts.old.now ++ all_of later.old.now) }
+    ensures filled { AreFilled parts.new.now }
+    ensures last { result.now ≡ [] → all_of parts.new.now ++ all_of later.new.now ≡ [] }
+    ensures shorter { length (result.now ++ (all_of parts.new.now ++ all_of later.new.now))
+        ≤ length (all_of parts.old.now ++ all_of later.old.now) }
+{
+    while let Some(part) = next_part(parts, later) {
+        if part.may_have(label) {
+            return part.as_slice();
+        }
+    }
+    &[]
+}
+
+// The first of some pairs with a label, past those before it.
+fn first_of<'a>(rest: &mut &'a [FlatHeld], label: Label) -> Option<Held>
+    ensures found { IfSome result (λ held. held_of label rest.old.now ≡ held ∷ held_of label rest.new.now) }
+    ensures none { result ≡ None → held_of label rest.old.now ≡ [] }
+    ensures passed { result ≡ None → rest.new.now ≡ [] }
+{
+    while let Some((first, others)) = rest.split_first() {
+        *rest = others;
+        if first.pair().label == label {
+            return Some(first.held());
+        }
+    }
+    None
 }
 
 impl<'a> Iterator for HeldIter<'a> {
@@ -78,7 +143,7 @@ impl<'a> Iterator for HeldIter<'a> {
     #[inline]
     fn next(&mut self) -> Option<Held> {
         if self.rest.is_empty() {
-            self.rest = next_part(&mut self.parts, &mut self.later);
+            self.rest = next_pairs(&mut self.parts, &mut self.later);
         }
         let (first, rest) = self.rest.split_first()?;
         self.rest = rest;

@@ -1,8 +1,11 @@
-ghost use Rattle.std.specs.Prelude.{◌≡◌, ◌<◌, [], Some, length, slice_get, IfOk};
+ghost use Rattle.std.specs.Prelude.{◌≡◌, ◌<◌, [], Some, false, length, slice_get, IfOk};
+ghost use Rattle.s2ix_bag_pairs.specs.Change.{changed};
+ghost use Rattle.s2ix_bag_pairs.specs.OfLabel.{held_of};
 
+use crate::filtered_held::FilteredHeld;
 use crate::flat::FlatHeld;
 use s2id_core::OutOfMemory;
-use s2ix_bag_pairs::Held;
+use s2ix_bag_pairs::{Entry, Held, Label};
 use std::alloc::{AllocError, Global};
 use std::marker::Model;
 use std::sync::Arc;
@@ -11,7 +14,7 @@ use std::sync::Arc;
 /// allocate. Contracts see the pairs.
 #[derive(Debug, Drop)]
 pub struct HeldList {
-    shared: Option<Arc<Vec<FlatHeld>>>,
+    shared: Option<Arc<FilteredHeld>>,
 }
 
 impl Model for HeldList {
@@ -20,7 +23,7 @@ impl Model for HeldList {
 
     ghost Value = { Collection };
 
-    ghost view = { λ list. elim list.shared [ None ↦ [] | Some shared ↦ shared.value.items ] };
+    ghost view = { λ list. elim list.shared [ None ↦ [] | Some shared ↦ shared.value ] };
 }
 
 impl HeldList {
@@ -35,7 +38,38 @@ impl HeldList {
     pub fn new(alloc: Global, held: Vec<FlatHeld>) -> Result<HeldList, OutOfMemory>
         ensures { IfOk result (λ list. list ≡ held.items) }
     {
-        if held.is_empty() {
+        HeldList::sharing(alloc, FilteredHeld::without_filter(held))
+    }
+
+    // These pairs with a filter of their labels, for lists in which a label's pairs are looked for. O(n) for n pairs. `OutOfMemory` if a
+    // growth is refused.
+    pub(crate) fn with_filter(alloc: Global, held: Vec<FlatHeld>) -> Result<HeldList, OutOfMemory>
+        ensures { IfOk result (λ list. list ≡ held.items) }
+    {
+        HeldList::sharing(alloc, FilteredHeld::new(held))
+    }
+
+    // What entries make of these pairs, which the caller has made already, with a filter of their labels. O(m) for m entries, but O(n) for n
+    // pairs once many entries have come. `OutOfMemory` if a growth is refused.
+    pub(crate) fn changed_to(
+        &self,
+        alloc: Global,
+        held: Vec<FlatHeld>,
+        entries: &[Entry],
+    ) -> Result<HeldList, OutOfMemory>
+        requires { held.items ≡ changed self.now entries.now }
+        ensures { IfOk result (λ list. list ≡ held.items) }
+    {
+        match &self.shared {
+            Some(shared) => HeldList::sharing(alloc, shared.changed_to(held, entries)),
+            None => HeldList::with_filter(alloc, held),
+        }
+    }
+
+    fn sharing(alloc: Global, held: FilteredHeld) -> Result<HeldList, OutOfMemory>
+        ensures { IfOk result (λ list. list ≡ held) }
+    {
+        if held.as_slice().is_empty() {
             return Ok(HeldList::empty());
         }
         let shared = Arc::new(alloc, held)?;
@@ -61,8 +95,19 @@ impl HeldList {
         ensures { slice_get self.now place ≡ Some result }
     {
         match &self.shared {
-            Some(shared) => shared[place].held(),
+            Some(shared) => shared.as_slice()[place].held(),
             None => unreachable!(),
+        }
+    }
+
+    // Whether one of the pairs may have a label. If not, none has. O(1).
+    #[inline]
+    pub(crate) fn may_have(&self, label: Label) -> bool
+        ensures { result ≡ false → held_of label self.now ≡ [] }
+    {
+        match &self.shared {
+            Some(shared) => shared.may_have(label),
+            None => false,
         }
     }
 }

@@ -19,14 +19,14 @@ use std::marker::Model;
 use std::sync::Arc;
 
 /// The most pairs that a part has, if its list says nothing else.
-pub(crate) const MOST_PAIRS: usize = 512;
+pub(crate) const MAX_PART_LEN: usize = 512;
 
 /// Held pairs, mostly those of one face, at most 1,000,000, in parts. A change copies the parts on which it has entries, and shares the
 /// others. Contracts see the one list that the parts make up, in rising order. A list without pairs does not allocate.
 #[derive(Debug, Drop)]
 pub struct HeldParts {
     shared: Option<Arc<PartList>>,
-    most: usize,
+    max_part_len: usize,
 }
 
 impl Model for HeldParts {
@@ -43,85 +43,88 @@ impl HeldParts {
     pub fn empty() -> HeldParts
         ensures { result ≡ [] }
     {
-        HeldParts::in_parts_of(MOST_PAIRS)
+        HeldParts::in_parts_of(MAX_PART_LEN)
     }
 
-    /// The list without pairs. As it grows, it is cut into parts of at most `most` pairs each, but at least one.
-    pub fn in_parts_of(most: usize) -> HeldParts
+    /// The list without pairs. As it grows, it is cut into parts of at most `max_part_len` pairs each, but at least one.
+    pub fn in_parts_of(max_part_len: usize) -> HeldParts
         ensures { result ≡ [] }
     {
-        HeldParts { shared: None, most }
+        HeldParts {
+            shared: None,
+            max_part_len,
+        }
     }
 
     /// These pairs: as one part, without a copy, if they fit into it, else copied into parts. O(n) for n pairs. `OutOfMemory` if a growth
     /// is refused.
     pub fn new(alloc: Global, held: Vec<FlatHeld>) -> Result<HeldParts, OutOfMemory>
         requires rises { IsCollection held.items }
-        requires few { length held.items ≤ 1000000 }
+        requires within_limit { length held.items ≤ 1000000 }
         ensures { IfOk result (λ list. list ≡ held.items) }
     {
-        HeldParts::new_in_parts_of(alloc, held, MOST_PAIRS)
+        HeldParts::new_in_parts_of(alloc, held, MAX_PART_LEN)
     }
 
-    /// The same in parts of at most `most` pairs each, but at least one, to which it keeps as it grows.
+    /// The same in parts of at most `max_part_len` pairs each, but at least one, to which it keeps as it grows.
     pub fn new_in_parts_of(
         alloc: Global,
         held: Vec<FlatHeld>,
-        most: usize,
+        max_part_len: usize,
     ) -> Result<HeldParts, OutOfMemory>
         requires rises { IsCollection held.items }
-        requires few { length held.items ≤ 1000000 }
+        requires within_limit { length held.items ≤ 1000000 }
         ensures { IfOk result (λ list. list ≡ held.items) }
     {
-        let parts = pieces(alloc, held, most)?;
-        HeldParts::from_parts(alloc, parts, most)
+        let parts = pieces(alloc, held, max_part_len)?;
+        HeldParts::from_parts(alloc, parts, max_part_len)
     }
 
     // A copy of these pairs, cut into parts. O(n) for n pairs. `OutOfMemory` if a growth is refused.
     pub(crate) fn copied(alloc: Global, held: &[FlatHeld]) -> Result<HeldParts, OutOfMemory>
         requires rises { IsCollection held.now }
-        requires few { length held.now ≤ 1000000 }
+        requires within_limit { length held.now ≤ 1000000 }
         ensures { IfOk result (λ list. list ≡ held.now) }
     {
-        let parts = if held.len() > MOST_PAIRS {
-            cut(alloc, held, MOST_PAIRS)?
+        let parts = if held.len() > MAX_PART_LEN {
+            cut(alloc, held, MAX_PART_LEN)?
         } else {
-            pieces(alloc, Vec::from_slice(alloc, held)?, MOST_PAIRS)?
+            pieces(alloc, Vec::from_slice(alloc, held)?, MAX_PART_LEN)?
         };
-        HeldParts::from_parts(alloc, parts, MOST_PAIRS)
+        HeldParts::from_parts(alloc, parts, MAX_PART_LEN)
     }
 
     // What these parts hold.
     fn from_parts(
         alloc: Global,
         parts: Vec<HeldList>,
-        most: usize,
+        max_part_len: usize,
     ) -> Result<HeldParts, OutOfMemory>
         requires rises { IsCollection (all_of parts.items) }
         requires filled { AreFilled parts.items }
-        requires few { length (all_of parts.items) ≤ 1000000 }
+        requires within_limit { length (all_of parts.items) ≤ 1000000 }
         ensures { IfOk result (λ list. list ≡ all_of parts.items) }
     {
         if parts.is_empty() {
-            return Ok(HeldParts::in_parts_of(most));
+            return Ok(HeldParts::in_parts_of(max_part_len));
         }
         let shared = Arc::new(alloc, PartList::new(alloc, parts)?)?;
         Ok(HeldParts {
             shared: Some(shared),
-            most,
+            max_part_len,
         })
     }
 
     /// The most pairs that a part has. No clause says so, as it concerns costs only. O(1).
-    pub fn most(&self) -> usize {
-        self.most
+    pub fn max_part_len(&self) -> usize {
+        self.max_part_len
     }
 
     /// How many distinct pairs are held. O(1).
     pub fn len(&self) -> usize
         ensures number { result ≡ length self.now }
         ensures rises { IsCollection self.now }
-        ensures few { result ≤ 1000000 }
+        ensures within_limit { result ≤ 1000000 }
     {
         match &self.shared {
             Some(shared) => shared.len(),
@@ -199,14 +202,14 @@ impl HeldParts {
     pub fn after(&self, alloc: Global, entries: &[Entry]) -> Result<HeldParts, OutOfMemory>
         requires entries_rise { IsChangeList entries.now }
         requires before { AreBefore self.now entries.now }
-        requires few { length (changed self.now entries.now) ≤ 1000000 }
+        requires within_limit { length (changed self.now entries.now) ≤ 1000000 }
         ensures { IfOk result (λ list. list ≡ changed self.now entries.now) }
     {
         if entries.is_empty() {
             return Ok(self.clone()?);
         }
         let parts = self.changed_parts(alloc, entries)?;
-        HeldParts::from_parts(alloc, parts, self.most)
+        HeldParts::from_parts(alloc, parts, self.max_part_len)
     }
 
     // What a change that has the right counts before makes of the parts.
@@ -219,9 +222,9 @@ impl HeldParts {
     {
         let parts = self.parts();
         if parts.is_empty() {
-            pieces(alloc, merge(alloc, &[], entries)?, self.most)
+            pieces(alloc, merge(alloc, &[], entries)?, self.max_part_len)
         } else {
-            parts_after(alloc, parts, entries, self.most)
+            parts_after(alloc, parts, entries, self.max_part_len)
         }
     }
 }
@@ -244,9 +247,9 @@ impl Clone for HeldParts {
         match &self.shared {
             Some(shared) => Ok(HeldParts {
                 shared: Some(shared.clone()?),
-                most: self.most,
+                max_part_len: self.max_part_len,
             }),
-            None => Ok(HeldParts::in_parts_of(self.most)),
+            None => Ok(HeldParts::in_parts_of(self.max_part_len)),
         }
     }
 }

@@ -5,7 +5,8 @@
 //!
 //! As a whole: a [`FaceLists`] holds the pairs of a collection, and contracts see them as one rising list. It keeps the pairs of each face
 //! in a [`HeldParts`], which cuts them into parts. All of it is shared: a copy raises six counters. A change copies only the parts on which
-//! it has entries, and parts beside them that have become small. Costs are for n held pairs and m entries.
+//! it has entries, and parts beside them that have become small. Each part has a filter of its labels, so that a search for a label's pairs
+//! passes over most parts that have none. Costs are for n held pairs and m entries.
 #![tactic(auto)]
 
 mod apply;
@@ -14,10 +15,12 @@ mod cut;
 mod entries;
 mod errors;
 mod face_ends;
+mod filtered_held;
 mod flat;
 mod held_iter;
 mod held_list;
 mod held_parts;
+mod label_filter;
 pub mod laws;
 mod lists;
 mod part_list;

@@ -11,7 +11,7 @@ use crate::face_ends::{entries_up_to, held_up_to};
 use crate::flat::FlatHeld;
 use crate::held_iter::HeldIter;
 use crate::held_list::HeldList;
-use crate::held_parts::{HeldParts, MOST_PAIRS, append_parts};
+use crate::held_parts::{HeldParts, MAX_PART_LEN, append_parts};
 use s2id_core::{FACES, OutOfMemory};
 use s2ix_bag_pairs::{Entry, Held, Limits, Pair};
 use std::alloc::{AllocError, Global};
@@ -36,17 +36,17 @@ impl Model for FaceLists {
     ghost invariant = { λ s. AreFaces s.lists s.len };
 }
 
-// Six lists without pairs, to be cut into parts of at most `most` pairs each.
-fn empty_lists(most: usize) -> [HeldParts; FACES]
+// Six lists without pairs, to be cut into parts of at most `max_part_len` pairs each.
+fn empty_lists(max_part_len: usize) -> [HeldParts; FACES]
     ensures { result ≡ [] ∷ [] ∷ [] ∷ [] ∷ [] ∷ [] ∷ [] }
 {
     [
-        HeldParts::in_parts_of(most),
-        HeldParts::in_parts_of(most),
-        HeldParts::in_parts_of(most),
-        HeldParts::in_parts_of(most),
-        HeldParts::in_parts_of(most),
-        HeldParts::in_parts_of(most),
+        HeldParts::in_parts_of(max_part_len),
+        HeldParts::in_parts_of(max_part_len),
+        HeldParts::in_parts_of(max_part_len),
+        HeldParts::in_parts_of(max_part_len),
+        HeldParts::in_parts_of(max_part_len),
+        HeldParts::in_parts_of(max_part_len),
     ]
 }
 
@@ -55,15 +55,15 @@ impl FaceLists {
     pub fn empty() -> FaceLists
         ensures { result ≡ [] }
     {
-        FaceLists::in_parts_of(MOST_PAIRS)
+        FaceLists::in_parts_of(MAX_PART_LEN)
     }
 
-    /// The lists that hold no pair. As they grow, each is cut into parts of at most `most` pairs, but at least one. They do not allocate.
-    pub fn in_parts_of(most: usize) -> FaceLists
+    /// The lists that hold no pair. As they grow, each is cut into parts of at most `max_part_len` pairs, but at least one. They do not allocate.
+    pub fn in_parts_of(max_part_len: usize) -> FaceLists
         ensures { result ≡ [] }
     {
         FaceLists {
-            lists: empty_lists(most),
+            lists: empty_lists(max_part_len),
             len: 0,
         }
     }
@@ -71,10 +71,10 @@ impl FaceLists {
     /// The lists that hold these pairs with these counts. O(n) for n pairs. `OutOfMemory` if a growth is refused.
     pub fn from_held(alloc: Global, held: &[FlatHeld]) -> Result<FaceLists, OutOfMemory>
         requires rises { IsCollection held.now }
-        requires few { length held.now ≤ 1000000 }
+        requires within_limit { length held.now ≤ 1000000 }
         ensures { IfOk result (λ lists. lists ≡ held.now) }
     {
-        let mut lists = empty_lists(MOST_PAIRS);
+        let mut lists = empty_lists(MAX_PART_LEN);
         let mut rest = held;
         for face in 0..FACES {
             let (own, later) = rest.split_at(held_up_to(rest, face));
@@ -98,7 +98,7 @@ impl FaceLists {
     pub fn len(&self) -> usize
         ensures number { result ≡ length self.now }
         ensures rises { IsCollection self.now }
-        ensures few { result ≤ 1000000 }
+        ensures within_limit { result ≤ 1000000 }
     {
         self.len
     }
@@ -207,7 +207,7 @@ impl FaceLists {
     pub fn after(&self, alloc: Global, entries: &[Entry]) -> Result<FaceLists, OutOfMemory>
         requires entries_rise { IsChangeList entries.now }
         requires before { AreBefore self.now entries.now }
-        requires few { length (changed self.now entries.now) ≤ 1000000 }
+        requires within_limit { length (changed self.now entries.now) ≤ 1000000 }
         ensures { IfOk result (λ lists. lists ≡ changed self.now entries.now) }
     {
         let len = self.len_after(entries);

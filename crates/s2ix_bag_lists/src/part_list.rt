@@ -53,7 +53,7 @@ impl PartList {
         requires some { 0 < length parts.items }
         requires rises { IsCollection (all_of parts.items) }
         requires filled { AreFilled parts.items }
-        requires few { length (all_of parts.items) ≤ 1000000 }
+        requires within_limit { length (all_of parts.items) ≤ 1000000 }
         ensures { IfOk result (λ list. list ≡ all_of parts.items) }
     {
         let (starts, len) = starts_of(alloc, &parts)?;
@@ -63,7 +63,7 @@ impl PartList {
     pub(crate) fn len(&self) -> usize
         ensures number { result ≡ length self.now }
         ensures rises { IsCollection self.now }
-        ensures few { result ≤ 1000000 }
+        ensures within_limit { result ≤ 1000000 }
     {
         self.len
     }

@@ -7,7 +7,7 @@ ghost use Rattle.s2ix_bag_pairs.specs.Change.{IsChangeList, changed};
 ghost use Rattle.s2ix_bag_pairs.specs.Collection.{IsCollection};
 
 use crate::apply::merge;
-use crate::cut::pieces;
+use crate::cut::cut;
 use crate::held_list::HeldList;
 use crate::part_search::{entries_up_to_part, part_of};
 use s2id_core::OutOfMemory;
@@ -15,10 +15,10 @@ use s2ix_bag_pairs::Entry;
 use std::alloc::Global;
 
 // Whether two parts that follow each other are to be one: one of them has less than a quarter of the most, and both fit into a part.
-fn is_joined(first: &HeldList, second: &HeldList, most: usize) -> bool {
+fn is_joined(first: &HeldList, second: &HeldList, max_part_len: usize) -> bool {
     let first = first.as_slice().len();
     let second = second.as_slice().len();
-    first.min(second) < most / 4 && first <= most && second <= most - first
+    first.min(second) < max_part_len / 4 && first <= max_part_len && second <= max_part_len - first
 }
 
 // The pairs of two parts in one.
@@ -30,7 +30,7 @@ fn joined(alloc: Global, first: &HeldList, second: &HeldList) -> Result<HeldList
     let mut both = Vec::with_capacity(alloc, first.len() + second.len())?;
     both.extend_from_slice(first)?;
     both.extend_from_slice(second)?;
-    HeldList::new(alloc, both)
+    HeldList::with_filter(alloc, both)
 }
 
 // Appends a part, shared, or joins it with the last one.
@@ -38,7 +38,7 @@ fn add(
     alloc: Global,
     out: &mut Vec<HeldList>,
     part: &HeldList,
-    most: usize,
+    max_part_len: usize,
 ) -> Result<(), OutOfMemory>
     requires filled { AreFilled out.old.items }
     requires some { 0 < length part.now }
@@ -46,7 +46,7 @@ fn add(
     ensures filled { OnOk result (AreFilled out.new.items) }
 {
     let len = out.len();
-    if len > 0 && is_joined(&out[len - 1], part, most) {
+    if len > 0 && is_joined(&out[len - 1], part, max_part_len) {
         let both = joined(alloc, &out[len - 1], part)?;
         out[len - 1] = both;
     } else {
@@ -60,7 +60,7 @@ fn add_all(
     alloc: Global,
     out: &mut Vec<HeldList>,
     parts: &[HeldList],
-    most: usize,
+    max_part_len: usize,
 ) -> Result<(), OutOfMemory>
     requires filled { AreFilled out.old.items }
     requires some { AreFilled parts.now }
@@ -68,7 +68,7 @@ fn add_all(
     ensures filled { OnOk result (AreFilled out.new.items) }
 {
     for part in parts {
-        add(alloc, out, part, most)?;
+        add(alloc, out, part, max_part_len)?;
     }
     Ok(())
 }
@@ -79,7 +79,7 @@ fn add_changed(
     out: &mut Vec<HeldList>,
     part: &HeldList,
     entries: &[Entry],
-    most: usize,
+    max_part_len: usize,
 ) -> Result<(), OutOfMemory>
     requires filled { AreFilled out.old.items }
     requires held_rise { IsCollection part.now }
@@ -89,8 +89,12 @@ fn add_changed(
     ensures filled { OnOk result (AreFilled out.new.items) }
 {
     let held = merge(alloc, part.as_slice(), entries)?;
-    let pieces = pieces(alloc, held, most)?;
-    add_all(alloc, out, &pieces, most)
+    if held.is_empty() || held.len() > max_part_len {
+        let pieces = cut(alloc, &held, max_part_len)?;
+        return add_all(alloc, out, &pieces, max_part_len);
+    }
+    let part = part.changed_to(alloc, held, entries)?;
+    add(alloc, out, &part, max_part_len)
 }
 
 /// The parts once a change is applied that has the right counts before. Those without an entry are shared, but for neighbours of parts that
@@ -99,7 +103,7 @@ pub(crate) fn parts_after(
     alloc: Global,
     parts: &[HeldList],
     entries: &[Entry],
-    most: usize,
+    max_part_len: usize,
 ) -> Result<Vec<HeldList>, OutOfMemory>
     requires rises { IsCollection (all_of parts.now) }
     requires filled { AreFilled parts.now }
@@ -115,12 +119,12 @@ pub(crate) fn parts_after(
     while let Some(first) = rest.first() {
         let place = part_of(ahead, first.pair);
         let (front, _) = ahead.split_at(place);
-        add_all(alloc, &mut after, front, most)?;
+        add_all(alloc, &mut after, front, max_part_len)?;
         let (own, later) = rest.split_at(entries_up_to_part(ahead, place, rest));
-        add_changed(alloc, &mut after, &ahead[place], own, most)?;
+        add_changed(alloc, &mut after, &ahead[place], own, max_part_len)?;
         rest = later;
         (_, ahead) = ahead.split_at(place + 1);
     }
-    add_all(alloc, &mut after, ahead, most)?;
+    add_all(alloc, &mut after, ahead, max_part_len)?;
     Ok(after)
 }

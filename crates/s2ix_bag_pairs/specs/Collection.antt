@@ -60,5 +60,5 @@ pub record LimitedCollection : Type 0 where
 -- a bag holds a collection within its limits
 pub record IsBag (bag : LimitedCollection) : Type 0 where
   pub rises : IsCollection bag.held
-  pub few : length bag.held ≤ pairs_limit bag.limits
+  pub within_limit : length bag.held ≤ pairs_limit bag.limits
   pub small : All (λ h. h.count ≤ count_limit bag.limits) bag.held

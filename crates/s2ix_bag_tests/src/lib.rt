@@ -8,6 +8,8 @@
 #[cfg(test)]
 mod bag_tests;
 #[cfg(test)]
+mod label_tests;
+#[cfg(test)]
 mod list_tests;
 #[cfg(test)]
 mod parts_tests;

@@ -12,17 +12,17 @@ loop-rest-preserved c =
     let ps = c.loop-rest.parts.items in
     let rest = c.loop-rest.rest.now in
     let k = c.piece_len-len.result in
-    let own : c.in_ok-new.field-0 ≡ take k rest = c.in_ok-new.ensures ∙ c.in_ok-from_slice.ensures.items ∙ c.split_at.ensures.front in
-    let long : length c.in_ok-new.field-0 ≡ k =
-    ap (λ (x : Collection). length x) (c.in_ok-new.ensures ∙ c.in_ok-from_slice.ensures.items) ∙ c.split_at.ensures.front_len in
+    let own : c.in_ok-with_filter.field-0 ≡ take k rest = c.in_ok-with_filter.ensures ∙ c.in_ok-from_slice.ensures.items ∙ c.split_at.ensures.front in
+    let long : length c.in_ok-with_filter.field-0 ≡ k =
+    ap (λ (x : Collection). length x) (c.in_ok-with_filter.ensures ∙ c.in_ok-from_slice.ensures.items) ∙ c.split_at.ensures.front_len in
     let new = c.in_ok-push.ensures.items in (
       ap₂ (λ (x : List Collection) (y : Collection). all_of x ++ y) new c.split_at.ensures.back
-          ∙ ap (λ (x : Collection). x ++ drop k rest) (all_push ps c.in_ok-new.field-0)
-          ∙ append_assoc (all_of ps) c.in_ok-new.field-0 (drop k rest)
+          ∙ ap (λ (x : Collection). x ++ drop k rest) (all_push ps c.in_ok-with_filter.field-0)
+          ∙ append_assoc (all_of ps) c.in_ok-with_filter.field-0 (drop k rest)
           ∙ ap (λ (x : Collection). all_of ps ++ (x ++ drop k rest)) own
           ∙ ap (λ (x : Collection). all_of ps ++ x) (take-append-drop k rest)
           ∙ c.loop-rest.invariant.0,
       subst (λ (x : List Collection). AreFilled x) (sym new)
-          (filled_append ps (c.in_ok-new.field-0 ∷ []) c.loop-rest.invariant.1 (omega (arith, long, c.piece_len-len.ensures.some), tt)),
+          (filled_append ps (c.in_ok-with_filter.field-0 ∷ []) c.loop-rest.invariant.1 (omega (arith, long, c.piece_len-len.ensures.some), tt)),
       omega (arith, c.split_at.ensures.back_len, c.split_at-in-loop-rest.ensures.back_len, c.loop-rest.invariant.2),
     )

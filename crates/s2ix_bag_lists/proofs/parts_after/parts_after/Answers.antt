@@ -34,7 +34,7 @@ add_changed-requires-clause-held_rise c =
       below = c.part_of-place.ensures.below;
       from = begins_from rest e was.entries_rise (sym c.in-Some.ensures.value);
       cut = c.entries_up_to_part.ensures.cut;
-      few = c.entries_up_to_part.ensures.within;
+      within_limit = c.entries_up_to_part.ensures.within;
       last = c.entries_up_to_part.ensures.last;
     } in
     let part = c.index-ahead-place.is ∙ get_or_default ahead i c.index-ahead-place.result [] next.within in
@@ -59,7 +59,7 @@ add_changed-requires-clause-entries_rise c =
       below = c.part_of-place.ensures.below;
       from = begins_from rest e was.entries_rise (sym c.in-Some.ensures.value);
       cut = c.entries_up_to_part.ensures.cut;
-      few = c.entries_up_to_part.ensures.within;
+      within_limit = c.entries_up_to_part.ensures.within;
       last = c.entries_up_to_part.ensures.last;
     } in
     let part = c.index-ahead-place.is ∙ get_or_default ahead i c.index-ahead-place.result [] next.within in
@@ -84,7 +84,7 @@ add_changed-requires-clause-before c =
       below = c.part_of-place.ensures.below;
       from = begins_from rest e was.entries_rise (sym c.in-Some.ensures.value);
       cut = c.entries_up_to_part.ensures.cut;
-      few = c.entries_up_to_part.ensures.within;
+      within_limit = c.entries_up_to_part.ensures.within;
       last = c.entries_up_to_part.ensures.last;
     } in
     let part = c.index-ahead-place.is ∙ get_or_default ahead i c.index-ahead-place.result [] next.within in
@@ -109,7 +109,7 @@ loop-first-preserved c =
       below = c.part_of-place.ensures.below;
       from = begins_from rest e was.entries_rise (sym c.in-Some.ensures.value);
       cut = c.entries_up_to_part.ensures.cut;
-      few = c.entries_up_to_part.ensures.within;
+      within_limit = c.entries_up_to_part.ensures.within;
       last = c.entries_up_to_part.ensures.last;
     } in
     let part = c.index-ahead-place.is ∙ get_or_default ahead i c.index-ahead-place.result [] next.within in

@@ -23,7 +23,7 @@ first_mismatch-requires-clause-held_rise c =
       below = c.part_of-part.ensures.below;
       from = begins_from rest c.in-Some.first.now was.entries_rise (sym c.in-Some.ensures.value);
       cut = c.entries_up_to_part.ensures.cut;
-      few = c.entries_up_to_part.ensures.within;
+      within_limit = c.entries_up_to_part.ensures.within;
       last = c.entries_up_to_part.ensures.last;
     } in
     let rank = rank_of c.in-Some.first.now.pair in
@@ -45,7 +45,7 @@ first_mismatch-requires-clause-entries_rise c =
       below = c.part_of-part.ensures.below;
       from = begins_from rest c.in-Some.first.now was.entries_rise (sym c.in-Some.ensures.value);
       cut = c.entries_up_to_part.ensures.cut;
-      few = c.entries_up_to_part.ensures.within;
+      within_limit = c.entries_up_to_part.ensures.within;
       last = c.entries_up_to_part.ensures.last;
     } in
     let rank = rank_of c.in-Some.first.now.pair in
@@ -67,7 +67,7 @@ returns-in-Some-first_mismatch c =
       below = c.part_of-part.ensures.below;
       from = begins_from rest c.in-Some.first.now was.entries_rise (sym c.in-Some.ensures.value);
       cut = c.entries_up_to_part.ensures.cut;
-      few = c.entries_up_to_part.ensures.within;
+      within_limit = c.entries_up_to_part.ensures.within;
       last = c.entries_up_to_part.ensures.last;
     } in
     let rank = rank_of c.in-Some.first.now.pair in
@@ -92,7 +92,7 @@ loop-first-preserved c =
       below = c.part_of-part.ensures.below;
       from = begins_from rest c.in-Some.first.now was.entries_rise (sym c.in-Some.ensures.value);
       cut = c.entries_up_to_part.ensures.cut;
-      few = c.entries_up_to_part.ensures.within;
+      within_limit = c.entries_up_to_part.ensures.within;
       last = c.entries_up_to_part.ensures.last;
     } in
     let rank = rank_of c.in-Some.first.now.pair in

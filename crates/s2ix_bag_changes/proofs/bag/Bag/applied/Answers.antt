@@ -11,13 +11,13 @@ after-requires-clause-before c =
     (taken_from_none (record { limits = c.self.inside.limits; held = c.self.inside.lists }) c.entries-entries.result.now
     (sym c.refusal.ensures ∙ c.in_default.is)).before
 
-pub after-requires-clause-few : goal.after-requires-clause-few
-after-requires-clause-few c =
+pub after-requires-clause-within_limit : goal.after-requires-clause-within_limit
+after-requires-clause-within_limit c =
     let taken =
     taken_from_none (record { limits = c.self.inside.limits; held = c.self.inside.lists }) c.entries-entries.result.now
     (sym c.refusal.ensures ∙ c.in_default.is) in
     let limits = c.self.inside.limits.in_range in
-    omega (arith, taken.few, limits.1)
+    omega (arith, taken.within_limit, limits.1)
 
 pub invariant_of-result : goal.invariant_of-result
 invariant_of-result c =

@@ -10,13 +10,13 @@ after-requires-clause-before c =
     (back_taken _ c.args.self.now c.args.change.now c.entries.result.now c.self.view_is
     (c.entries.ensures.list ∙ c.in_ok-back.ensures.entries) c.in_ok-back.ensures.accepted).before
 
-pub after-requires-clause-few : goal.after-requires-clause-few
-after-requires-clause-few c =
+pub after-requires-clause-within_limit : goal.after-requires-clause-within_limit
+after-requires-clause-within_limit c =
     let taken =
     back_taken _ c.args.self.now c.args.change.now c.entries.result.now c.self.view_is
     (c.entries.ensures.list ∙ c.in_ok-back.ensures.entries) c.in_ok-back.ensures.accepted in
     let limits = c.self.inside.limits.in_range in
-    omega (arith, taken.few, limits.1)
+    omega (arith, taken.within_limit, limits.1)
 
 pub invariant_of-result : goal.invariant_of-result
 invariant_of-result c =

@@ -39,18 +39,18 @@ after-requires-clause-before c =
     let is = subst₂ IsOwnChange (sym held) (sym c.split_at.ensures.front) own in
     is.before
 
-pub after-requires-clause-few : goal.after-requires-clause-few
-after-requires-clause-few c =
+pub after-requires-clause-within_limit : goal.after-requires-clause-within_limit
+after-requires-clause-within_limit c =
     let ls = c.loop-face.lists in
     let face = c.loop-face.face in
     let rest = c.loop-face.rest.now in
     let k = c.entries_up_to.result in
     let short : face < length ls = omega (arith, c.loop-face.invariant.six) in
     let held = sym (get_or_default ls face [] c.index-lists-face.result short) in
-    let few = own_few c.args.self.now c.args.entries.now face ls rest k (omega arith) c.loop-face.invariant
+    let within_limit = own_few c.args.self.now c.args.entries.now face ls rest k (omega arith) c.loop-face.invariant
     c.entries_up_to.ensures.below c.entries_up_to.ensures.rest in
     let same = ap₂ (λ (hs : Collection) (es : List Entry). length (changed hs es)) held c.split_at.ensures.front in
-    omega (arith, few, same, c.requires.few)
+    omega (arith, within_limit, same, c.requires.within_limit)
 
 pub loop-face-preserved : goal.loop-face-preserved
 loop-face-preserved c =
@@ -70,7 +70,7 @@ invariant_of-result c =
     let was = c.loop-face.invariant in
     let all = changing_end c.args.self.now c.args.entries.now c.loop-face.face c.loop-face.lists c.loop-face.rest.now (omega arith) was in
     let counted = c.len_after-len.ensures ∙ ap (λ (hs : Collection). length hs) (sym all) in
-    record { six = was.six; apart = was.apart; counted = counted; few = omega (arith, c.requires.few, c.len_after-len.ensures) }
+    record { six = was.six; apart = was.apart; counted = counted; within_limit = omega (arith, c.requires.within_limit, c.len_after-len.ensures) }
 
 pub returns : goal.returns
 returns c =

@@ -40,7 +40,7 @@ invariant_of-result c =
       six = was.six;
       apart = was.apart;
       counted = ap (λ (hs : Collection). length hs) (sym all);
-      few = c.requires.few;
+      within_limit = c.requires.within_limit;
     }
 
 pub returns : goal.returns
