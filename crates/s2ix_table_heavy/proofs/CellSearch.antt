@@ -16,8 +16,8 @@ use Rattle.s2ix_table_spans.specs.Chains.{chain_of}
 use Rattle.s2ix_table_heavy.specs.Chunks.{AreChunks, IsFirstFrom}
 use Rattle.s2ix_table_heavy.proofs.Chunked.{in_chunks, of_chunks, ranks_apart}
 use Rattle.s2ix_table_heavy.proofs.HeavyWay.{IsMarked, mark_headed, mark_there}
-use Rattle.s2ix_table_heavy.proofs.MakingMarks.{raws_rise}
-use Rattle.s2ix_table_heavy.proofs.OnePlace.{heads_agree}
+use Rattle.s2ix_table_spans.proofs.Numbers.{raw_by_rank}
+use Rattle.s2ix_table_spans.proofs.OnePlace.{heads_agree}
 
 -- the chunks in front of a number have cells before this one, and those from another number on have none before it
 pub record IsNarrowed (chunks : List Collection) (cell : CellId) (low high : ℕ) : Type 0 where
@@ -31,7 +31,7 @@ cells_rise : (chunks : List Collection) (j k : ℕ) (a b : Held) → AreChunks c
     → Contains (get_or chunks j []) a → Contains (get_or chunks k []) b → raw_of a.pair.cell ≤ raw_of b.pair.cell
 cells_rise chunks j k a b are le lt i l =
     elim (cases_lt j k) [
-      | inl less ↦ raws_rise a b (ranks_apart 0 chunks j k a b are.rises less i l)
+      | inl less ↦ raw_by_rank a b (ranks_apart 0 chunks j k a b are.rises less i l)
       | inr more ↦
           (let same : j ≡ k = omega arith in
           let in_k = subst (λ n. Contains (get_or chunks n []) a) same i in

@@ -49,9 +49,9 @@ one_cell_more chunks chunk all own c i =
 
 pub chunks_cut : (chunks : List Collection) (held : Collection) → all_of chunks ≡ held → AreFilled chunks → AreOfOneCell chunks
     → IsCollection held → length held ≤ 1000000 → AreChunks chunks
-chunks_cut chunks held whole filled one rises few = record {
+chunks_cut chunks held whole filled one rises within_limit = record {
   rises = subst IsCollection (sym whole) rises;
-  few = subst (λ (hs : Collection). length hs ≤ 1000000) (sym whole) few;
+  within_limit = subst (λ (hs : Collection). length hs ≤ 1000000) (sym whole) within_limit;
   filled = filled;
   one_cell = one;
 }

@@ -1,5 +1,5 @@
 -- How marks are made, and that they rise.
-use Rattle.std.proofs.Common.{◌≡◌, ℕ, suc, ◌+◌, ◌*◌, ◌<◌, ◌≤◌, inl, inr, Some, List, [], ◌∷◌, ◌++◌, length, get_or, slice_get, refl, sym, ◌∙◌, ap, arith, Contains, subst}
+use Rattle.std.proofs.Common.{◌≡◌, ℕ, suc, ◌+◌, ◌*◌, ◌≤◌, inl, inr, Some, List, [], ◌∷◌, ◌++◌, length, get_or, slice_get, refl, sym, ◌∙◌, ap, arith, Contains, subst}
 use Rattle.std.proofs.lemmas.Bool.{cases_lt}
 use Rattle.std.proofs.lemmas.List.{length_push}
 use Rattle.std.proofs.lemmas.Option.{slice_get_within}
@@ -9,13 +9,10 @@ use Rattle.s2ix_bag_lists.specs.Faces.{all_of}
 use Rattle.s2ix_bag_lists.specs.Parts.{AreFilled}
 use Rattle.s2ix_bag_lists.proofs.Joins.{back_rises}
 use Rattle.s2ix_bag_pairs.specs.Collection.{Collection, IsCollection, IsCollectionFrom}
-use Rattle.s2ix_bag_pairs.specs.Label.{value_of}
 use Rattle.s2ix_bag_pairs.specs.Pair.{rank_of}
 use Rattle.s2ix_bag_pairs.specs.declared.pair.Held.{Held}
-use Rattle.s2ix_table_walk.specs.Table.{leaf_end}
-use Rattle.s2ix_table_walk.proofs.Over.{span_of}
-use Rattle.s2ix_table_spans.specs.SpanTable.{IsInSpan}
 use Rattle.s2ix_table_spans.proofs.BlockChains.{read_front, read_after}
+use Rattle.s2ix_table_spans.proofs.Numbers.{raw_by_rank}
 use Rattle.s2ix_table_heavy.specs.Chunks.{AreChunks, AreMarks, IsMark}
 use Rattle.s2ix_table_heavy.proofs.Chunked.{ranks_across}
 use Rattle.s2ix_table_heavy.proofs.Kept.{chunks_few}
@@ -53,13 +50,6 @@ all_marks chunks count marks first e = record { size = first.size ∙ e; each = 
 
 -- ---- they rise
 
-raw_by_rank : (r s v w : ℕ) → w ≤ 2147483647 → r * 2147483648 + v < s * 2147483648 + w → r ≤ s
-raw_by_rank r s v w small lt = omega arith
-
-pub raws_rise : (a b : Held) → rank_of a.pair < rank_of b.pair → raw_of a.pair.cell ≤ raw_of b.pair.cell
-raws_rise a b lt =
-    raw_by_rank (raw_of a.pair.cell) (raw_of b.pair.cell) (value_of a.pair.label) (value_of b.pair.label) b.pair.label.in_range lt
-
 numbers_rise : (r s v : ℕ) → r ≤ s → r * 2147483648 + v ≤ s * 2147483648 + v
 numbers_rise r s v le = omega arith
 
@@ -85,7 +75,7 @@ marks_rise r n low ((h ∷ hs) ∷ cs) (m ∷ ms) size each filled rises least =
     let number = later.label in
     record { cell = later.cell; label = omega arith; count = later.count })
     filled.1 (back_rises low (h ∷ hs) (all_of cs) rises)
-    (λ x i. let le = raws_rise h x (ranks_across low (h ∷ hs) (all_of cs) h x rises (at_head h hs) i) in omega arith) in
+    (λ x i. let le = raw_by_rank h x (ranks_across low (h ∷ hs) (all_of cs) h x rises (at_head h hs) i) in omega arith) in
     (omega arith, omega arith, subst (λ k. IsCollectionFrom k ms) next rest)
 
 pub marks_are_collection : (chunks : List Collection) (marks : Collection) → AreChunks chunks → AreMarks chunks marks → IsCollection marks
@@ -97,16 +87,6 @@ marks_are_collection chunks marks are mark =
 pub marks_few : (chunks : List Collection) (marks : Collection) → AreChunks chunks → AreMarks chunks marks → length marks ≤ 1000000
 marks_few chunks marks are mark =
     let size = mark.size in
-    let few = are.few in
+    let within_limit = are.within_limit in
     let less = chunks_few chunks are.filled in
     omega arith
-
--- all cells lie in the span of all leaves
-pub in_all_leaves : (held : Collection) → IsInSpan held 1 leaf_end
-in_all_leaves held = record {
-  odd = refl;
-  odd_end = refl;
-  some = omega arith;
-  begins = λ h i. (span_of h).begins;
-  ends = λ h i. (span_of h).ends;
-}

@@ -12,6 +12,7 @@ use Rattle.s2ix_table_walk.proofs.Over.{nested_over}
 use Rattle.s2ix_table_spans.specs.Once.{IsHeldAt, KeepsOnce}
 use Rattle.s2ix_table_spans.proofs.Chains.{IsOutward}
 use Rattle.s2ix_table_spans.proofs.Keys.{over_first}
+use Rattle.s2ix_table_spans.proofs.OnePlace.{heads_agree}
 use Rattle.s2ix_table_spans.proofs.Passing.{contains_at, same_place}
 use Rattle.s2ix_table_heavy.specs.Chunks.{AreChunks}
 use Rattle.s2ix_table_heavy.specs.HeavyChains.{pair_at, heavy_chain}
@@ -90,9 +91,6 @@ has_place chunks are start h (j, within, e) =
     )
 
 -- ---- it is one
-
-pub heads_agree : (x y : Held) (xs ys : Collection) → x ∷ xs ≡ y ∷ ys → x ≡ y
-heads_agree x y xs ys e = cc
 
 pair_of_place : (chunks : List Collection) → AreChunks chunks → (place : HeavyPlace) (h : Held) (rest : Collection)
     → heavy_chain chunks place ≡ h ∷ rest → pair_at chunks place ≡ Some h

@@ -19,7 +19,7 @@ IsOfOneCell xs = HaveOneCell xs xs
 -- lists that rise one after the other, none empty, each with the pairs of one cell; a cell may have several
 pub record AreChunks (chunks : List Collection) : Type 0 where
   pub rises : IsCollection (all_of chunks)
-  pub few : length (all_of chunks) ≤ 1000000
+  pub within_limit : length (all_of chunks) ≤ 1000000
   pub filled : AreFilled chunks
   pub one_cell : (chunk : Collection) → Contains chunks chunk → IsOfOneCell chunk
 

@@ -8,37 +8,37 @@ use s2id_core::OutOfMemory;
 use s2ix_bag_lists::{FlatHeld, HeldList};
 use std::alloc::Global;
 
-// How many pairs in front have the cell of the first one: at most `most`, and at least one.
-fn chunk_len(held: &[FlatHeld], most: usize) -> usize
+// How many pairs in front have the cell of the first one: at most `max_len`, and at least one.
+fn chunk_len(held: &[FlatHeld], max_len: usize) -> usize
     requires { 0 < length held.now }
     ensures some { 0 < result }
     ensures within { result ≤ length held.now }
-    ensures most { result ≤ max most 1 }
+    ensures at_most { result ≤ max max_len 1 }
     ensures one_cell { IsOfOneCell (take result held.now) }
 {
     let cell = held[0].cell();
     let mut len = 1;
-    while len < held.len() && len < most && held[len].cell() == cell {
+    while len < held.len() && len < max_len && held[len].cell() == cell {
         len += 1;
     }
     len
 }
 
-/// Held pairs, cut into chunks of at most `most` pairs each, but at least one. O(n) for n pairs. `OutOfMemory` if a growth is refused.
+/// Held pairs, cut into chunks of at most `max_len` pairs each, but at least one. O(n) for n pairs. `OutOfMemory` if a growth is refused.
 pub fn cut_into_chunks(
     alloc: Global,
     held: &[FlatHeld],
-    most: usize,
+    max_len: usize,
 ) -> Result<Vec<HeldList>, OutOfMemory>
     requires rises { IsCollection held.now }
-    requires few { length held.now ≤ 1000000 }
+    requires within_limit { length held.now ≤ 1000000 }
     ensures whole { IfOk result (λ chunks. all_of chunks.items ≡ held.now) }
     ensures chunks { IfOk result (λ chunks. AreChunks chunks.items) }
 {
     let mut chunks = Vec::new(alloc);
     let mut rest = held;
     while !rest.is_empty() {
-        let (own, later) = rest.split_at(chunk_len(rest, most));
+        let (own, later) = rest.split_at(chunk_len(rest, max_len));
         chunks.push(HeldList::new(alloc, Vec::from_slice(alloc, own)?)?)?;
         rest = later;
     }

@@ -12,7 +12,7 @@ use std::alloc::Global;
 fn mark_of(chunk: &HeldList, number: usize) -> Held
     requires some { 0 < length chunk.now }
     requires one_cell { IsOfOneCell chunk.now }
-    requires few { number < 1000000 }
+    requires within_limit { number < 1000000 }
     ensures { IsMark chunk.now number result }
 {
     let cell = chunk.at(0).pair.cell;

@@ -29,7 +29,7 @@ pub struct CopiedTable {
     held: Snapshot<Vec<Held>>,
     ghost rises: { IsCollection held.value.items } by { IsCollection-prop 0 held.value.items },
     ghost table: { IsRangeTable held.value.items (ranges_of ranges.items) },
-    ghost few: { length held.value.items ≤ 1000000 },
+    ghost within_limit: { length held.value.items ≤ 1000000 },
 }
 
 /// A pair of a range's list, by the range and its place in that list, both counted from 0.
@@ -54,7 +54,7 @@ impl RangeTable for CopiedTable {
 
     ghost are_borders = { λ t. one_border t.table.some };
 
-    ghost few = { λ t. t.few };
+    ghost within_limit = { λ t. t.within_limit };
 
     fn build(alloc: Global, bag: &Bag) -> Result<Self, OutOfMemory> {
         let held = held_pairs(alloc, bag)?;

@@ -10,7 +10,7 @@ use std::alloc::Global;
 pub(crate) fn held_pairs(alloc: Global, bag: &Bag) -> Result<Vec<Held>, OutOfMemory>
     ensures list { IfOk result (λ held. held.items ≡ bag.now.held) }
     ensures rises { IfOk result (λ held. IsCollection held.items) }
-    ensures few { IfOk result (λ held. length held.items ≤ 1000000) }
+    ensures within_limit { IfOk result (λ held. length held.items ≤ 1000000) }
 {
     let mut list = Vec::with_capacity(alloc, bag.len())?;
     for held in bag.iter() {

@@ -103,7 +103,7 @@ fn put_chain<T: RangeTable, R: OfHeld>(
 
 // Puts what lies over a leaf into a buffer, from a place of it on; returns where it ends, or `None` if there is no room for it all.
 #[inline(always)]
-fn put_contents<T: RangeTable, R: OfHeld>(
+fn put_leaf<T: RangeTable, R: OfHeld>(
     table: &T,
     contents: &LeafContents<'_, T::Place>,
     leaf: CellId,
@@ -210,7 +210,7 @@ fn put_batch<'a, T: RangeTable, R: OfHeld>(
             let hint = if has_looked { hints[k] } else { contents.hint };
             *contents = table.contents_near(leaf, hint);
         }
-        let Some(end) = put_contents(table, contents, leaf, out, done.pairs) else {
+        let Some(end) = put_leaf(table, contents, leaf, out, done.pairs) else {
             return done;
         };
         ends[done.leaves] = end;

@@ -1,13 +1,13 @@
 //! The labels of the pairs that a target meets.
 ghost use Rattle.std.specs.Prelude.{◌≡◌, ◌↔◌, ◌⊎◌, ◌<◌, IfOk, OnOk, Contains};
+ghost use Rattle.s2id_union.specs.Covers.{FollowOneAnother};
 ghost use Rattle.s2ix_bag_pairs.specs.declared.label.Label.{Label as LabelHeld};
 ghost use Rattle.s2ix_bag_pairs.specs.declared.pair.Held.{Held};
 ghost use Rattle.s2ix_table_walk.specs.Meeting.{meeting_of};
 
 use crate::meter::Meter;
 use crate::table::RangeTable;
-use s2id_core::OutOfMemory;
-use s2id_union::CellUnion;
+use s2id_core::{CellId, OutOfMemory};
 use s2ix_bag_pairs::Label;
 use s2ix_table_walk::Meeting;
 use std::alloc::Global;
@@ -22,18 +22,19 @@ type Places = [u32; 128];
 // The last place that fits there.
 const LAST_PLACE: usize = 0xffffffff;
 
-// The labels of the target's meeting list, in its order, few of them twice: the pairs of a label mostly come near one another.
+// The labels of the meeting list of a target's cells, in its order, few of them twice: the pairs of a label mostly come near one another.
 pub(crate) fn gather<T: RangeTable>(
     alloc: Global,
     table: &T,
-    target: &CellUnion,
+    cells: &[CellId],
 ) -> Result<Vec<Label>, OutOfMemory>
+    requires { FollowOneAnother cells.now }
     ensures { IfOk result (λ labels. (label : LabelHeld)
         → Contains labels.items label
-        ↔ ((held : Held) × Contains (meeting_of target.now (T.pairs table.now)) held × (held.pair.label ≡ label))) }
+        ↔ ((held : Held) × Contains (meeting_of cells.now (T.pairs table.now)) held × (held.pair.label ≡ label))) }
 {
     let mut meter = Meter::new(table);
-    let mut meeting = Meeting::new(&mut meter, target);
+    let mut meeting = Meeting::of_cells(&mut meter, cells);
     let mut labels = Vec::new(alloc);
     let mut places = [0; 128];
     while let Some(held) = meeting.advance() {

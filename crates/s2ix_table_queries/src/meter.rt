@@ -46,7 +46,7 @@ impl<T: RangeTable> Reader for Meter<'_, T> {
 
     ghost spent = { λ meter. meter.cost };
 
-    ghost is_shown = { λ meter. record { is_collection = T.is_collection meter.table.now; is_table = T.is_table meter.table.now; few = T.few meter.table.now; are_borders = T.are_borders meter.table.now } };
+    ghost is_shown = { λ meter. record { is_collection = T.is_collection meter.table.now; is_table = T.is_table meter.table.now; within_limit = T.within_limit meter.table.now; are_borders = T.are_borders meter.table.now } };
 
     fn range_count(&self) -> usize {
         self.table.range_count()

@@ -1,5 +1,6 @@
 ghost use Rattle.std.specs.Prelude.{◌≡◌, ◌+◌, ◌<◌, ◌≤◌, ◌∷◌, ℕ, IfOk, IsTrue, List, [], length, drop, slice_index_or};
 ghost use Rattle.s2id_core.specs.CellId.{raw_of, level_of};
+ghost use Rattle.s2id_union.specs.Covers.{FollowOneAnother};
 ghost use Rattle.s2ix_bag_pairs.specs.Collection.{Collection, IsCollection};
 ghost use Rattle.s2ix_table_walk.specs.Contents.{contents_at};
 ghost use Rattle.s2ix_table_walk.specs.LabelList.{label_list};
@@ -187,7 +188,7 @@ pub trait RangeTable: Sized {
     ghost are_borders: { (table : Self) → AreBorders (ranges table) (borders table) };
 
     // the pairs are at most as many as the widest limits let a bag hold
-    ghost few: { (table : Self) → length (pairs table) ≤ 1000000 };
+    ghost within_limit: { (table : Self) → length (pairs table) ≤ 1000000 };
 
     /// Calls `f` on each pair of the target's meeting list, in order, until a call returns false; returns whether every call returned true
     /// (S2's `VisitIntersectingCells()`). It does not allocate. The caller proves `f`'s precondition for these pairs only.
@@ -240,7 +241,21 @@ pub trait RangeTable: Sized {
         ensures labels { IfOk result (λ labels. IsLabelList (meeting_of target.now (pairs self.now)) labels.items) }
         ensures list { IfOk result (λ labels. labels.items ≡ label_list (meeting_of target.now (pairs self.now))) }
     {
-        let mut labels = gather(alloc, self, target)?;
+        self.labels_of_cells(alloc, target.cells())
+    }
+
+    /// The labels of the meeting list of a target that is given by its cells, once each and rising. The cells follow one another along the curve,
+    /// none within another, and need not be normal. It costs what `labels` does.
+    final fn labels_of_cells(
+        &self,
+        alloc: Global,
+        cells: &[CellId],
+    ) -> Result<Vec<Label>, OutOfMemory>
+        requires { FollowOneAnother cells.now }
+        ensures labels { IfOk result (λ labels. IsLabelList (meeting_of cells.now (pairs self.now)) labels.items) }
+        ensures list { IfOk result (λ labels. labels.items ≡ label_list (meeting_of cells.now (pairs self.now))) }
+    {
+        let mut labels = gather(alloc, self, cells)?;
         labels.sort_unstable();
         labels.dedup();
         Ok(labels)

@@ -9,7 +9,7 @@ use Rattle.s2id_core.proofs.Nested.{span}
 use Rattle.s2ix_bag_pairs.specs.Collection.{Collection}
 use Rattle.s2ix_table_walk.specs.Bounds.{IsBound}
 use Rattle.s2ix_table_walk.specs.Table.{IsTableOver}
-use Rattle.s2ix_table_spans.specs.Blocks.{IsBlock, IsBlockAt, IsBeside, IsCut, HoldsCell, around}
+use Rattle.s2ix_table_spans.specs.Blocks.{IsBlock, IsBlockAt, IsBeside, AreOverCell, HoldsCell, around}
 use Rattle.s2ix_table_spans.specs.Chains.{chain_of, AreOuter}
 use Rattle.s2ix_table_spans.specs.SpanTable.{IsInSpan}
 use Rattle.s2ix_table_spans.specs.Starts.{ranges_from, IsLastStart}
@@ -138,7 +138,7 @@ first_at_cell held cell from to starts k table within own last =
 
 pub cut_within : (held : Collection) (cell : CellId) (from to : ℕ) (starts : List ℕ) (first last : ℕ)
     → IsTableOver held from to (ranges_from held starts to) → IsInSpan held from to → HoldsCell held cell
-    → IsLastStart starts (first_of cell) first → end_of cell < to → IsLastStart starts (end_of cell) last → IsCut starts cell to first last
+    → IsLastStart starts (first_of cell) first → end_of cell < to → IsLastStart starts (end_of cell) last → AreOverCell starts cell to first last
 cut_within held cell from to starts first last table within own at_first lt at_last =
     let s = span (raw_of cell) cell.valid in
     let a = s.from in
@@ -165,7 +165,7 @@ cut_within held cell from to starts first last table within own at_first lt at_l
 
 pub cut_to_end : (held : Collection) (cell : CellId) (from to : ℕ) (starts : List ℕ) (first : ℕ)
     → IsTableOver held from to (ranges_from held starts to) → IsInSpan held from to → HoldsCell held cell
-    → IsLastStart starts (first_of cell) first → to ≤ end_of cell → IsCut starts cell to first (length starts)
+    → IsLastStart starts (first_of cell) first → to ≤ end_of cell → AreOverCell starts cell to first (length starts)
 cut_to_end held cell from to starts first table within own at_first le =
     let ends = (cell_in_span held cell from to within own).1 in
     let one = first_at_cell held cell from to starts first table within own at_first in

@@ -9,7 +9,7 @@ use Rattle.s2ix_table_spans.proofs.Chains.{chain_none}
 use Rattle.s2ix_table_spans.proofs.Passing.{same_place}
 use Rattle.s2ix_table_spans.proofs.Tables.{headed}
 
-heads_agree : (x y : Held) (xs ys : Collection) → x ∷ xs ≡ y ∷ ys → x ≡ y
+pub heads_agree : (x y : Held) (xs ys : Collection) → x ∷ xs ≡ y ∷ ys → x ≡ y
 heads_agree x y xs ys e = cc
 
 -- the pair that a place's chain begins with is that of the place

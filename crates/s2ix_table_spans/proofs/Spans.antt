@@ -12,10 +12,10 @@ pub spans : (held : Collection) (from to : ℕ) (outer starts firsts : List ℕ)
 spans held from to outer starts firsts nodes =
     record {
       rises = nodes.rises;
-      few = nodes.few;
+      within_limit = nodes.within_limit;
       within = nodes.within;
       table = nodes.table;
-      ranges_few = let n = length_ranges held starts to in let few = nodes.ranges_few in omega arith;
+      ranges_few = let n = length_ranges held starts to in let within_limit = nodes.ranges_few in omega arith;
       once = record {
         place = λ start h i. has_place held outer start h nodes.size nodes.outwards i;
         same = λ start other p q h one two. one_place held outer start other p q h nodes.rises nodes.size nodes.outwards one two;

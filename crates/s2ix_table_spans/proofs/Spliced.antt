@@ -5,7 +5,7 @@ use Rattle.s2id_core.specs.CellId.{first_of, end_of}
 use Rattle.s2id_core.specs.declared.cell_id.CellId.{CellId}
 use Rattle.s2ix_bag_pairs.specs.Collection.{Collection, IsCollection}
 use Rattle.s2ix_table_walk.specs.Table.{IsTableOver}
-use Rattle.s2ix_table_spans.specs.Blocks.{IsBlock, IsExchange, IsCut, HoldsCell, IsBeside, around, moved, placed, joined_places}
+use Rattle.s2ix_table_spans.specs.Blocks.{IsBlock, IsExchange, AreOverCell, HoldsCell, IsBeside, around, moved, placed, joined_places}
 use Rattle.s2ix_table_spans.specs.Chains.{chain_of, AreFirsts}
 use Rattle.s2ix_table_spans.specs.Nodes.{AreNodes}
 use Rattle.s2ix_table_spans.specs.SpanTable.{IsInSpan}
@@ -54,11 +54,11 @@ AreSpliced next start old new count base from to outer starts firsts o s f first
 pub parts_spliced : (cell : CellId) (before old new after : Collection) (from to : ℕ) (outer starts firsts o s f : List ℕ) (base first last : ℕ)
     → IsBlock cell before old after → IsBlock cell before new after → HoldsCell (before ++ (new ++ after)) cell
     → AreNodes (before ++ (old ++ after)) from to outer starts firsts → AreNodes new (first_of cell) (end_of cell) o s f
-    → IsCut starts cell to first last → IsCollection (before ++ (new ++ after)) → length (before ++ (new ++ after)) ≤ 1000000
+    → AreOverCell starts cell to first last → IsCollection (before ++ (new ++ after)) → length (before ++ (new ++ after)) ≤ 1000000
     → IsInSpan (before ++ (new ++ after)) from to → chain_of (before ++ (new ++ after)) base ≡ around cell before after
     → AreSpliced (before ++ (new ++ after)) (length before) (length old) (length new) (length before + (length old + length after)) base from to
     outer starts firsts o s f first last
-parts_spliced cell before old new after from to outer starts firsts o s f base first last b c own nodes block cut rises few within on_base =
+parts_spliced cell before old new after from to outer starts firsts o s f base first last b c own nodes block cut rises within_limit within on_base =
     let held = before ++ (old ++ after) in
     let next = before ++ (new ++ after) in
     let h = own.0 in
@@ -82,7 +82,7 @@ parts_spliced cell before old new after from to outer starts firsts o s f base f
     let own_many = block.size in
     record {
       rises = rises;
-      few = few;
+      within_limit = within_limit;
       within = within;
       table = table;
       ranges_few =
@@ -168,11 +168,11 @@ base_moved held next cell start old new base e beside on_base =
 
 pub nodes_spliced : (held next : Collection) (cell : CellId) (start old new from to : ℕ) (outer starts firsts o s f : List ℕ) (base first last : ℕ)
     → IsExchange held next cell start old new → AreNodes held from to outer starts firsts
-    → AreNodes (take new (drop start next)) (first_of cell) (end_of cell) o s f → IsCut starts cell to first last
+    → AreNodes (take new (drop start next)) (first_of cell) (end_of cell) o s f → AreOverCell starts cell to first last
     → IsCollection next → length next ≤ 1000000 → IsInSpan next from to
     → chain_of next base ≡ around cell (take start held) (drop (start + old) held)
     → AreSpliced next start old new (length held) base from to outer starts firsts o s f first last
-nodes_spliced held next cell start old new from to outer starts firsts o s f base first last e nodes block cut rises few within on_base =
+nodes_spliced held next cell start old new from to outer starts firsts o s f base first last e nodes block cut rises within_limit within on_base =
     let before = take start held in
     let b = take old (drop start held) in
     let n = take new (drop start next) in
@@ -182,6 +182,6 @@ nodes_spliced held next cell start old new from to outer starts firsts o s f bas
     (parts_spliced cell before b n after from to outer starts firsts o s f base first last e.old_block (new_block_of held next cell start old new e)
     (subst (λ (hs : Collection). HoldsCell hs cell) next_is e.new_own)
     (subst (λ (hs : Collection). AreNodes hs from to outer starts firsts) (parts_of held start old e.old_fits) nodes) block cut
-    (subst IsCollection next_is rises) (subst (λ (hs : Collection). length hs ≤ 1000000) next_is few)
+    (subst IsCollection next_is rises) (subst (λ (hs : Collection). length hs ≤ 1000000) next_is within_limit)
     (subst (λ (hs : Collection). IsInSpan hs from to) next_is within)
     (subst (λ (hs : Collection). chain_of hs base ≡ around cell before after) next_is on_base))

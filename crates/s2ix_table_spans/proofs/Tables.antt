@@ -35,15 +35,15 @@ outer_at (h ∷ hs) outer place next size are lt is =
 pub nodes_of_pass : (held : Collection) (from to : ℕ) (pass : Pass) (starts firsts : List ℕ) → IsCollection held → length held ≤ 1000000
     → IsInSpan held from to → IsSwept held from to pass → starts ≡ take pass.frontier.count pass.starts.items
     → firsts ≡ take pass.frontier.count pass.firsts.items → AreNodes held from to pass.outer.items starts firsts
-nodes_of_pass held from to pass starts firsts rises few within swept starts_are firsts_are =
+nodes_of_pass held from to pass starts firsts rises within_limit within swept starts_are firsts_are =
     record {
       rises = rises;
-      few = few;
+      within_limit = within_limit;
       within = within;
       table = subst (λ (ss : List ℕ). IsTableOver held from to (ranges_from held ss to)) (sym starts_are) swept.table;
       ranges_few =
           let short = ap length starts_are ∙ length-take pass.frontier.count pass.starts.items in
-          let count = swept.few in
+          let count = swept.within_limit in
           omega arith;
       size = swept.size;
       outwards = swept.outer;

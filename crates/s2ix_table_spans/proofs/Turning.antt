@@ -232,7 +232,7 @@ way_ends held order from to k depth bound lasts old mid o span way is_bound ahea
       size = ap (λ (os : List ℕ). length os) w.outer ∙ way.size;
       firsts = passes.firsts;
       table = places_from_table held from to (ranges_from held (progress_of mid).starts to) span.some (subst (λ n. IsTable held from (ranges_from held (progress_of mid).starts n) n) at_to passes.table);
-      few = omega arith;
+      within_limit = omega arith;
       starts_room = w.starts_room ∙ way.starts_room;
       firsts_room = w.firsts_room ∙ way.firsts_room;
     }

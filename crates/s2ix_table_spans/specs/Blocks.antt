@@ -60,7 +60,7 @@ pub record IsExchange (held next : Collection) (cell : CellId) (start old new : 
   pub new_own : HoldsCell next cell
 
 -- the ranges over a cell: the one at the place `first` begins with the cell, and the cell ends where the one at `last` begins, or with all
-pub record IsCut (starts : List ℕ) (cell : CellId) (to first last : ℕ) : Type 0 where
+pub record AreOverCell (starts : List ℕ) (cell : CellId) (to first last : ℕ) : Type 0 where
   pub rises : first ≤ last
   pub within : last ≤ length starts
   pub begins : slice_index_or (drop first starts) 0 to ≡ first_of cell

@@ -9,7 +9,7 @@ use Rattle.s2ix_table_spans.specs.Starts.{ranges_from}
 -- one node for each pair, which leads outwards, and beside each start of a range the place of its innermost pair
 pub record AreNodes (held : Collection) (from to : ℕ) (outer starts firsts : List ℕ) : Type 0 where
   pub rises : IsCollection held
-  pub few : length held ≤ 1000000
+  pub within_limit : length held ≤ 1000000
   pub within : IsInSpan held from to
   pub table : IsTableOver held from to (ranges_from held starts to)
   pub ranges_few : length starts ≤ 2 * length held + 1

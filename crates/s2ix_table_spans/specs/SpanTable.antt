@@ -25,7 +25,7 @@ pub record SpanRanges : Type 0 where
 -- the ranges are those of the pairs over the span, and a pair has one place
 pub record IsSpanTable (span : SpanRanges) : Type 0 where
   pub rises : IsCollection span.held
-  pub few : length span.held ≤ 1000000
+  pub within_limit : length span.held ≤ 1000000
   pub within : IsInSpan span.held span.from span.to
   pub table : IsTableOver span.held span.from span.to span.ranges
   pub ranges_few : length span.ranges ≤ 2 * length span.held + 1

@@ -24,7 +24,7 @@ pub record IsSwept (held : Collection) (from to : ℕ) (pass : Pass) : Type 0 wh
   pub size : length pass.outer.items ≡ length held
   pub firsts : AreFirsts held (progress_of pass).starts (progress_of pass).firsts
   pub table : IsTableOver held from to (ranges_from held (progress_of pass).starts to)
-  pub few : pass.frontier.count ≤ 2 * length held + 1
+  pub within_limit : pass.frontier.count ≤ 2 * length held + 1
   pub starts_room : length pass.starts.items ≡ 2 * length held + 1
   pub firsts_room : length pass.firsts.items ≡ 2 * length held + 1
 

@@ -34,8 +34,8 @@ impl Block {
     #[inline]
     pub(crate) fn moved(self, place: u32) -> u32
         requires fits { self.start + self.old ≤ self.count }
-        requires few { self.count ≤ 1000000 }
-        requires few_new { self.new ≤ 1000000 }
+        requires within_limit { self.count ≤ 1000000 }
+        requires new_within_limit { self.new ≤ 1000000 }
         ensures { result ≡ moved self.start self.old self.new self.count place }
     {
         if (place as usize) < self.start {
@@ -48,8 +48,8 @@ impl Block {
     // Where a place among the new pairs is among all pairs, or a base if it is none of these.
     #[inline]
     pub(crate) fn placed(self, place: u32, base: u32) -> u32
-        requires few { self.start ≤ 1000000 }
-        requires few_new { self.new ≤ 1000000 }
+        requires within_limit { self.start ≤ 1000000 }
+        requires new_within_limit { self.new ≤ 1000000 }
         ensures { result ≡ placed self.start self.new base place }
     {
         if (place as usize) < self.new {

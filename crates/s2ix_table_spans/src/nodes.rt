@@ -27,7 +27,7 @@ impl Nodes {
         to: u64,
     ) -> Result<Nodes, OutOfMemory>
         requires rises { IsCollection pairs.now }
-        requires few { length pairs.now ≤ 1000000 }
+        requires within_limit { length pairs.now ≤ 1000000 }
         requires span { IsInSpan pairs.now from to }
         ensures { IfOk result (λ nodes. AreNodes pairs.now from to nodes.outer.items nodes.starts.items nodes.firsts.items) }
     {

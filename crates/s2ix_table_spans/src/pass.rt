@@ -28,7 +28,7 @@ impl Pass {
     pub(crate) fn write_until(&mut self, frontier: Frontier, bound: u64) -> Frontier
         requires starts { frontier.count < length self.old.starts.items }
         requires firsts { frontier.count < length self.old.firsts.items }
-        requires few { length self.old.starts.items ≤ 2000001 }
+        requires within_limit { length self.old.starts.items ≤ 2000001 }
         ensures { IsWritten bound (with_frontier frontier self.old) (with_frontier result self.new) }
     {
         self.starts[frontier.count] = frontier.at;

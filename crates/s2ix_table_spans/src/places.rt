@@ -168,7 +168,7 @@ pub fn is_last_start(starts: &[u64], leaf: u64, place: usize) -> bool
 fn reached(start: u64, leaf: u64) -> usize
     ensures by { start % 2 ≡ 1 → start ≤ leaf → result ≡ 1 }
     ensures after { start % 2 ≡ 1 → leaf < start → result ≡ 0 }
-    ensures most { result ≤ 1 }
+    ensures at_most { result ≤ 1 }
 {
     let above = leaf - leaf / 2;
     let between = (start / 2).wrapping_sub(above);

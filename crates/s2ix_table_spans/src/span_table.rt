@@ -61,7 +61,7 @@ impl SpanTable {
     /// `OutOfMemory` if a growth is refused.
     pub fn over(alloc: Global, held: HeldList, from: u64, to: u64) -> Result<SpanTable, OutOfMemory>
         requires rises { IsCollection held }
-        requires few { length held ≤ 1000000 }
+        requires within_limit { length held ≤ 1000000 }
         requires span { IsInSpan held from to }
         ensures pairs { IfOk result (λ table. table.held ≡ held) }
         ensures begins { IfOk result (λ table. table.from ≡ from) }
@@ -77,7 +77,7 @@ impl SpanTable {
     /// bench shows it. O(n) for n pairs in both. `OutOfMemory` if a growth is refused.
     pub fn after(&self, alloc: Global, held: HeldList) -> Result<SpanTable, OutOfMemory>
         requires rises { IsCollection held }
-        requires few { length held ≤ 1000000 }
+        requires within_limit { length held ≤ 1000000 }
         requires span { IsInSpan held self.now.from self.now.to }
         ensures pairs { IfOk result (λ table. table.held ≡ held) }
         ensures begins { IfOk result (λ table. table.from ≡ self.now.from) }

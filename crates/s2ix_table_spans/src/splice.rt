@@ -1,7 +1,7 @@
 //! A table after a change, of the one before it: only the leaves of one cell are swept.
 ghost use Rattle.std.specs.Prelude.{◌≡◌, ◌⊎◌, ◌+◌, ◌-◌, ◌<◌, ◌≤◌, ◌++◌, IfOk, IfSome, OnOk, Contains, length, take, drop, map};
 ghost use Rattle.s2ix_bag_pairs.specs.Collection.{IsCollection};
-ghost use Rattle.s2ix_table_spans.specs.Blocks.{HoldsCell, IsBeside, IsBlockAt, IsCut, IsExchange, around, moved, placed, joined_places};
+ghost use Rattle.s2ix_table_spans.specs.Blocks.{HoldsCell, IsBeside, IsBlockAt, AreOverCell, IsExchange, around, moved, placed, joined_places};
 ghost use Rattle.s2ix_table_spans.specs.Chains.{chain_of};
 ghost use Rattle.s2ix_table_spans.specs.Nodes.{AreNodes};
 ghost use Rattle.s2ix_table_spans.specs.SpanTable.{IsInSpan};
@@ -26,9 +26,9 @@ pub(crate) struct Before<'a> {
     pub(crate) to: u64,
 }
 
-// Some ranges of a table: those from the place `first` on, up to and without `last`.
+// The ranges over a cell: those from the place `first` on, up to and without `last`.
 #[derive(Clone, Copy)]
-struct Cut {
+struct CellRanges {
     first: usize,
     last: usize,
 }
@@ -70,7 +70,7 @@ impl Before<'_> {
         requires nodes { AreNodes self.held.now self.from self.to self.outer.now self.starts.now self.firsts.now }
         requires sample { IsSample (length self.starts.now - 2) (drop 1 self.starts.now) self.sample.now }
         requires rises { IsCollection next.now }
-        requires few { length next.now ≤ 1000000 }
+        requires within_limit { length next.now ≤ 1000000 }
         requires span { IsInSpan next.now self.from self.to }
         requires block { IsExchange self.held.now next.now block.cell block.start block.old block.new }
         requires count { block.count ≡ length self.held.now }
@@ -79,8 +79,8 @@ impl Before<'_> {
         let pairs = &next[block.start..block.start + block.new];
         let own = Nodes::over(alloc, pairs, block.cell.span_start(), block.cell.span_end())?;
         let base = block.moved(self.base(block));
-        let cut = self.cut(block.cell);
-        self.joined(alloc, block, base, cut, &own)
+        let ranges = self.ranges_over(block.cell);
+        self.joined(alloc, block, base, ranges, &own)
     }
 
     // The place of the innermost pair around a block.
@@ -101,11 +101,11 @@ impl Before<'_> {
     }
 
     // The ranges over a cell that is held.
-    fn cut(self, cell: CellId) -> Cut
+    fn ranges_over(self, cell: CellId) -> CellRanges
         requires nodes { AreNodes self.held.now self.from self.to self.outer.now self.starts.now self.firsts.now }
         requires sample { IsSample (length self.starts.now - 2) (drop 1 self.starts.now) self.sample.now }
         requires holds { HoldsCell self.held.now cell }
-        ensures { IsCut self.entry.starts.now cell self.entry.to result.first result.last }
+        ensures { AreOverCell self.entry.starts.now cell self.entry.to result.first result.last }
     {
         let first = last_start(self.starts, self.sample, cell.span_start());
         let end = cell.span_end();
@@ -114,7 +114,7 @@ impl Before<'_> {
         } else {
             self.starts.len()
         };
-        Cut { first, last }
+        CellRanges { first, last }
     }
 
     // The lists beside a block and those of the block itself, put together.
@@ -123,11 +123,11 @@ impl Before<'_> {
         alloc: Global,
         block: Block,
         base: u32,
-        cut: Cut,
+        ranges: CellRanges,
         own: &Nodes,
     ) -> Result<Nodes, OutOfMemory>
-        requires few { block.count ≤ 1000000 }
-        requires few_new { block.new ≤ 1000000 }
+        requires within_limit { block.count ≤ 1000000 }
+        requires new_within_limit { block.new ≤ 1000000 }
         requires fits { block.start + block.old ≤ block.count }
         requires outer { length self.outer.now ≡ block.count }
         requires starts { length self.starts.now ≤ 2000001 }
@@ -135,23 +135,23 @@ impl Before<'_> {
         requires own_outer { length own.now.outer.items ≤ 1000000 }
         requires own_starts { length own.now.starts.items ≤ 2000001 }
         requires own_firsts { length own.now.firsts.items ≤ 2000001 }
-        requires rises { cut.first ≤ cut.last }
-        requires within { cut.last ≤ length self.starts.now }
+        requires rises { ranges.first ≤ ranges.last }
+        requires within { ranges.last ≤ length self.starts.now }
         ensures outer { IfOk result (λ nodes. nodes.outer.items ≡ joined_places block.start block.old block.new block.count base
             (take block.start self.entry.outer.now) own.now.outer.items (drop (block.start + block.old) self.entry.outer.now)) }
         ensures starts { IfOk result (λ nodes. nodes.starts.items
-            ≡ take cut.first self.entry.starts.now ++ (own.now.starts.items ++ drop cut.last self.entry.starts.now)) }
+            ≡ take ranges.first self.entry.starts.now ++ (own.now.starts.items ++ drop ranges.last self.entry.starts.now)) }
         ensures firsts { IfOk result (λ nodes. nodes.firsts.items ≡ joined_places block.start block.old block.new block.count base
-            (take cut.first self.entry.firsts.now) own.now.firsts.items (drop cut.last self.entry.firsts.now)) }
+            (take ranges.first self.entry.firsts.now) own.now.firsts.items (drop ranges.last self.entry.firsts.now)) }
     {
         let (front, _) = self.outer.split_at(block.start);
         let (_, after) = self.outer.split_at(block.start + block.old);
         let outer = joined_places(alloc, block, base, front, own.outer.as_slice(), after)?;
-        let (front, _) = self.firsts.split_at(cut.first);
-        let (_, after) = self.firsts.split_at(cut.last);
+        let (front, _) = self.firsts.split_at(ranges.first);
+        let (_, after) = self.firsts.split_at(ranges.last);
         let firsts = joined_places(alloc, block, base, front, own.firsts.as_slice(), after)?;
-        let (front, _) = self.starts.split_at(cut.first);
-        let (_, after) = self.starts.split_at(cut.last);
+        let (front, _) = self.starts.split_at(ranges.first);
+        let (_, after) = self.starts.split_at(ranges.last);
         let starts = joined_starts(alloc, front, own.starts.as_slice(), after)?;
         Ok(Nodes {
             outer,
@@ -208,8 +208,8 @@ fn joined_places(
     after: &[u32],
 ) -> Result<Vec<u32>, OutOfMemory>
     requires fits { block.start + block.old ≤ block.count }
-    requires few { block.count ≤ 1000000 }
-    requires few_new { block.new ≤ 1000000 }
+    requires within_limit { block.count ≤ 1000000 }
+    requires new_within_limit { block.new ≤ 1000000 }
     requires room { length front.now + length own.now + length after.now ≤ 10000000 }
     ensures { IfOk result (λ places. places.items
         ≡ joined_places block.start block.old block.new block.count base front.now own.now after.now) }
@@ -224,8 +224,8 @@ fn joined_places(
 // Appends places beside a block, each where it is now.
 fn push_moved(places: &mut Vec<u32>, block: Block, beside: &[u32]) -> Result<(), OutOfMemory>
     requires fits { block.start + block.old ≤ block.count }
-    requires few { block.count ≤ 1000000 }
-    requires few_new { block.new ≤ 1000000 }
+    requires within_limit { block.count ≤ 1000000 }
+    requires new_within_limit { block.new ≤ 1000000 }
     ensures { OnOk result (places.new.items ≡ places.old.items ++ map (moved block.start block.old block.new block.count) beside.now) }
 {
     for &place in beside {
@@ -241,8 +241,8 @@ fn push_placed(
     base: u32,
     own: &[u32],
 ) -> Result<(), OutOfMemory>
-    requires few { block.start ≤ 1000000 }
-    requires few_new { block.new ≤ 1000000 }
+    requires within_limit { block.start ≤ 1000000 }
+    requires new_within_limit { block.new ≤ 1000000 }
     ensures { OnOk result (places.new.items ≡ places.old.items ++ map (placed block.start block.new base) own.now) }
 {
     for &place in own {

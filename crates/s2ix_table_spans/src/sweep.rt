@@ -20,7 +20,7 @@ pub(crate) fn sweep_span(
     to: u64,
 ) -> Result<Pass, OutOfMemory>
     requires rises { IsCollection held.now }
-    requires few { length held.now ≤ 1000000 }
+    requires within_limit { length held.now ≤ 1000000 }
     requires order { IsSweepOrder held.now order.now }
     requires span { IsInSpan held.now from to }
     requires room { length stack.old ≡ length held.now + 1 }
@@ -49,7 +49,7 @@ pub(crate) fn sweep_span(
 // kept beside the chain, after one that stands for none: no bound lies after it.
 fn sweep(held: &[FlatHeld], order: &[u32], pass: &mut Pass, lasts: &mut [u64], to: u64)
     requires rises { IsCollection held.now }
-    requires few { length held.now ≤ 1000000 }
+    requires within_limit { length held.now ≤ 1000000 }
     requires order { IsSweepOrder held.now order.now }
     requires span { IsInSpan held.now pass.old.frontier.at to }
     requires fresh { IsFresh held.now pass.old }

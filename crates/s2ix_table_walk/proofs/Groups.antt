@@ -120,7 +120,7 @@ digits_of_groups n some =
 -- halving the groups and then one of them takes no more probes than halving all ranges, if there is room for the groups
 pub groups_pay : (k power size groups last : ℕ) → power ≡ 2 ^ k → 2 ^ k ≤ size - 1 → groups ≤ power / 8 → 1 ≤ groups → last ≤ 16
     → binary_digits (groups - 1) + binary_digits (last - 1) ≤ binary_digits (size - 1)
-groups_pay k power size groups last is within room some few =
+groups_pay k power size groups last is within room some within_limit =
     let twice = pow-suc 2 k in
     let least = one-le-pow k 2 (omega arith) in
     let above = digits_above k (size - 1) within in

@@ -130,7 +130,7 @@ begun_fits : (held : Collection) (target : List CellId) (ranges : List Range) (s
     → ranges_begun target ranges seen ≤ 18446744073709551615
 begun_fits held target ranges seen t =
     let some = t.some in
-    let few = count_by-le-length (λ (r : Range). is_met target r && ltb r.start seen) ranges in
+    let within_limit = count_by-le-length (λ (r : Range). is_met target r && ltb r.start seen) ranges in
     let fit = range_fits held ranges t (length ranges - 1) (omega arith) in
     omega arith
 
@@ -184,7 +184,7 @@ step_pays shown target walk next x k calls old new p looks at_hand searched rise
             omega arith)
         | inr ge ↦
             (let times = mul-le-mul_right d (cells_grow target walk.seen next.seen (omega arith)) in
-            let few = at_hand ge in
+            let within_limit = at_hand ge in
             omega arith)
       ];
       begun = let begun = paid.begun in
@@ -203,7 +203,7 @@ pub look_pays : {P : Type 0} (shown : Shown P) (target : List CellId) (walk : Wa
     → IsPaid shown target
     (record { cell = walk.cell; range = walk.range; seen = walk.seen; from = walk.from; place = outer; known = walk.known }) (calls + 1)
     new
-look_pays shown target walk outer calls old new few some is paid =
+look_pays shown target walk outer calls old new within_limit some is paid =
     let same = is ∙ looked_some walk.place old some in
     let looks = ap (λ (c : Cost). c.looks) same in
     let probes = ap (λ (c : Cost). c.probes) same in
@@ -233,7 +233,7 @@ pub close_pays : {P : Type 0} (shown : Shown P) (target : List CellId) (walk : W
     → new ≡ looked_at walk.place old → IsPaid shown target walk calls old
     → IsPaid shown target
     (record { cell = walk.cell; range = walk.range; seen = walk.seen; from = walk.from; place = None; known = walk.known }) calls new
-close_pays shown target walk calls old new few is paid =
+close_pays shown target walk calls old new within_limit is paid =
     let looks = ap (λ (c : Cost). c.looks) is in
     let probes = ap (λ (c : Cost). c.probes) is in
     let by = closed_by walk.place old in
@@ -252,7 +252,7 @@ close_pays shown target walk calls old new few is paid =
 pub few_meet : {P : Type 0} (shown : Shown P) (target : List CellId) → IsShown shown → length (meeting_of target shown.pairs) ≤ 1000000
 unfolding meeting_from
 few_meet shown target is =
-    let few = is.few in
+    let within_limit = is.within_limit in
     let less = length_choice (is_met_from target 1) (meeting_key target) shown.pairs in
     omega arith
 
@@ -281,7 +281,7 @@ pub next_pays : {P : Type 0} (shown : Shown P) (target : List CellId) (walk next
     → HasPaid shown target walk old → HasPaid shown target next new
 next_pays shown target walk next old new None is ends gives pays has =
     let all : ℕ = length (meeting_of target shown.pairs) in
-    let few = few_meet shown target is in
+    let within_limit = few_meet shown target is in
     let a = ap length (ends refl).0 in
     let b = ap length (ends refl).1 in
     let calls : ℕ = all - length (left_of shown target walk) in
@@ -295,7 +295,7 @@ next_pays shown target walk next old new None is ends gives pays has =
     }
 next_pays shown target walk next old new (Some held) is ends gives pays has =
     let all : ℕ = length (meeting_of target shown.pairs) in
-    let few = few_meet shown target is in
+    let within_limit = few_meet shown target is in
     let a = ap length gives in
     let fits = has.fits in
     let calls : ℕ = all - length (left_of shown target walk) in

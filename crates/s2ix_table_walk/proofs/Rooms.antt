@@ -7,7 +7,7 @@ use Rattle.s2ix_bag_pairs.specs.Collection.{Collection}
 use Rattle.s2ix_table_walk.specs.Searching.{IsNarrowing, IsWindow}
 use Rattle.s2ix_table_walk.specs.Shown.{Shown}
 use Rattle.s2ix_table_walk.specs.Table.{Range, IsRangeTable}
-use Rattle.s2ix_table_walk.specs.declared.narrowing.Narrowing.{Narrowing}
+use Rattle.s2ix_table_walk.specs.declared.search_state.Narrowing.{Narrowing}
 use Rattle.s2ix_table_walk.proofs.WalkSteps.{range_fits}
 
 -- the end of a window fits a word

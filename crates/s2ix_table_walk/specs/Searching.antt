@@ -3,7 +3,7 @@ use Rattle.std.specs.Prelude.{◌≡◌, ℕ, ◌+◌, ◌-◌, ◌*◌, ◌/◌
 use Rattle.s2id_core.specs.BinaryDigits.{binary_digits}
 use Rattle.s2ix_table_walk.specs.Shown.{Shown}
 use Rattle.s2ix_table_walk.specs.Table.{Range, range_at}
-use Rattle.s2ix_table_walk.specs.declared.narrowing.Narrowing.{Narrowing}
+use Rattle.s2ix_table_walk.specs.declared.search_state.Narrowing.{Narrowing}
 
 -- the range with a leaf is one of `size` from `first` on
 pub record IsWindow (ranges : List Range) (leaf first size : ℕ) : Type 0 where

@@ -6,9 +6,9 @@ ghost use Rattle.s2ix_table_walk.specs.Searching.{IsNarrowing, IsWindow};
 ghost use Rattle.s2ix_table_walk.specs.Table.{Range, range_at};
 ghost use Rattle.s2ix_table_walk.specs.Walking.{IsKnown};
 
-use crate::narrowing::{Candidates, Narrowing};
 use crate::power::power_within;
 use crate::reader::Reader;
+use crate::search_state::{Candidates, Narrowing};
 use crate::walk_state::KnownWindow;
 use crate::window::Window;
 
@@ -148,7 +148,7 @@ pub(crate) fn side(among: Window, before: usize, begins: u64, leaf: u64) -> Wind
         → IsWindow ranges leaf result.first result.size }
     ensures some { 0 < result.size }
     ensures fewer { result.size < among.size }
-    ensures most { result.size ≤ max before (among.size - before) }
+    ensures at_most { result.size ≤ max before (among.size - before) }
 {
     if begins <= leaf {
         Window {

@@ -86,7 +86,7 @@ pub fn met_ranges_share_a_leaf()
 
 /// A closure is called on at most as many pairs as a list has, and on all of them if every answer was true.
 pub fn calls_are_of_the_list<F: FnMut(Held) -> bool>()
-    ensures most { (f last : F) (pairs : Collection) (calls : ℕ) (whole : Bool) → CallsOn F.step f pairs calls whole last → calls ≤ length pairs }
+    ensures at_most { (f last : F) (pairs : Collection) (calls : ℕ) (whole : Bool) → CallsOn F.step f pairs calls whole last → calls ≤ length pairs }
     ensures whole { (f last : F) (pairs : Collection) (calls : ℕ) → CallsOn F.step f pairs calls true last → calls ≡ length pairs }
 {}
 

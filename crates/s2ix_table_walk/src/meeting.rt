@@ -35,7 +35,19 @@ impl<'a, R: Reader> Meeting<'a, R> {
         ensures cells { target_in result ≡ target.now }
         ensures left { left_in result ≡ meeting_of target.now (R.shown reader.old).pairs }
     {
-        let cells = target.cells();
+        Meeting::of_cells(reader, target.cells())
+    }
+
+    /// The meeting list of a target that is given by its cells, over a reader that has read nothing. The cells follow one another along the
+    /// curve, none within another, and need not be normal: four of them may be all the children of one.
+    pub fn of_cells(reader: &'a mut R, cells: &'a [CellId]) -> Meeting<'a, R>
+        requires unread { R.spent reader.old ≡ no_cost }
+        requires follow { FollowOneAnother cells.now }
+        ensures reference { (reader_in result).ghost_name ≡ reader.entry.ghost_name }
+        ensures shown { R.shown (reader_in result).now ≡ R.shown reader.old }
+        ensures cells { target_in result ≡ cells.now }
+        ensures left { left_in result ≡ meeting_of cells.now (R.shown reader.old).pairs }
+    {
         let walk = WalkState {
             cell: 0,
             range: 0,

@@ -8,10 +8,10 @@ ghost use Rattle.s2ix_table_walk.specs.Searching.{AreGroups, IsWindow};
 ghost use Rattle.s2ix_table_walk.specs.Walking.{IsKnown};
 
 use crate::borders::{in_one_part, side};
-use crate::narrowing::Candidates;
 use crate::power::power_within;
 use crate::reader::Reader;
 use crate::sample::SAMPLE_STEP;
+use crate::search_state::Candidates;
 use crate::walk_state::KnownWindow;
 use crate::window::Window;
 use s2id_core::CellId;

@@ -21,8 +21,8 @@ loop-len-preserved c =
 pub returns-else-eq-clause-one_cell : goal.returns-else-eq-clause-one_cell
 returns-else-eq-clause-one_cell c = one_cell_in (take c.loop-len.len c.args.held.now) c.cell-cell.result c.loop-len.invariant.3
 
-pub returns-else-len-most-clause-one_cell : goal.returns-else-len-most-clause-one_cell
-returns-else-len-most-clause-one_cell c = one_cell_in (take c.loop-len.len c.args.held.now) c.cell-cell.result c.loop-len.invariant.3
+pub returns-else-len-max_len-clause-one_cell : goal.returns-else-len-max_len-clause-one_cell
+returns-else-len-max_len-clause-one_cell c = one_cell_in (take c.loop-len.len c.args.held.now) c.cell-cell.result c.loop-len.invariant.3
 
 pub returns-after-loop-len-clause-one_cell : goal.returns-after-loop-len-clause-one_cell
 returns-after-loop-len-clause-one_cell c = one_cell_in (take c.loop-len.len c.args.held.now) c.cell-cell.result c.loop-len.invariant.3

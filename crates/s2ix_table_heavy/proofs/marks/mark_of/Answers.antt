@@ -5,7 +5,7 @@ use Rattle.s2ix_table_heavy.proofs.marks.mark_of.Goals as goal
 pub returns : goal.returns
 returns c =
     let label = c.in-Some.ensures.value in
-    let few = c.requires.few in
+    let within_limit = c.requires.within_limit in
     record {
       cell = λ h i. c.requires.one_cell h c.at.result i (contains_at c.args.chunk.now 0 c.at.result c.at.ensures);
       label = omega arith;

@@ -25,12 +25,12 @@ mark_of-requires-clause-one_cell c =
     let own = c.index-chunks-number.is ∙ get_or_default chunks k c.index-chunks-number.result [] within in
     subst IsOfOneCell (sym own) (c.requires.one_cell _ (Contains-get_or chunks k [] within))
 
-pub mark_of-requires-clause-few : goal.mark_of-requires-clause-few
-mark_of-requires-clause-few c =
+pub mark_of-requires-clause-within_limit : goal.mark_of-requires-clause-within_limit
+mark_of-requires-clause-within_limit c =
     let chunks = c.args.chunks.now in
     let within : c.loop-number.number < length chunks = omega arith in
     let less = chunks_few chunks c.requires.filled in
-    let few = c.requires.few in
+    let within_limit = c.requires.within_limit in
     omega arith
 
 pub loop-number-preserved : goal.loop-number-preserved

@@ -27,10 +27,10 @@ loop-k-preserved g c =
     c.requires.batch c.loop-k-test.true i.5 c.index-batch-k.is in
     let end = subst (λ (l : CellId). c.in-Some.end ≡ c.loop-k.done.pairs + length (contents_at (raw_of l) held))
     (sym c.index-batch-k.is) c.in-Some.ensures.end in
-    let put = subst (λ (l : CellId). take c.in-Some.end c.put_contents.new.out
+    let put = subst (λ (l : CellId). take c.in-Some.end c.put_leaf.new.out
     ≡ take c.loop-k.done.pairs c.loop-k.out ++ map g.R.OfHeld.of (contents_at (raw_of l) held)) (sym c.index-batch-k.is) c.in-Some.ensures.put in
     let more = answered_more g.R.OfHeld.of held c.args.leaves.now c.loop-k.done.leaves c.loop-k.done.pairs c.in-Some.end c.loop-k.ends
-    c.loop-k.out c.put_contents.new.out leaf (contents_at (raw_of leaf) held) i.0 there.1 (omega arith) there.0 i.1 refl end put in
+    c.loop-k.out c.put_leaf.new.out leaf (contents_at (raw_of leaf) held) i.0 there.1 (omega arith) there.0 i.1 refl end put in
     let ends_long : length (slice_set c.loop-k.ends c.loop-k.done.leaves c.in-Some.end) ≡ length c.args.ends.now = search rules in (
       more.0,
       more.1,

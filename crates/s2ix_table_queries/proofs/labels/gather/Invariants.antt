@@ -6,7 +6,7 @@ use Rattle.s2ix_table_queries.proofs.labels.gather.Given as goal
 
 abbrev pub invariant-loop-held : goal.invariant-loop-held
 invariant-loop-held g l =
-    IsGathered (meeting_of l.target (g.T.RangeTable.pairs l.table)) (left_in l.meeting) l.labels.items
+    IsGathered (meeting_of l.cells (g.T.RangeTable.pairs l.table)) (left_in l.meeting) l.labels.items
 
 abbrev pub decreases-loop-held : goal.decreases-loop-held
 decreases-loop-held g l = length (left_in l.meeting)

@@ -8,7 +8,7 @@ pub loop-k-init : goal.loop-k-init
 loop-k-init c =
     let starts = c.args.starts.now in
     let none = c.in_ok-sample.ensures.items in
-    let few = ap length none in (
+    let within_limit = ap length none in (
       subst (IsSample (length starts - 2) (drop 1 starts)) (sym none) (none_sampled (length starts - 2) (drop 1 starts)),
       omega arith,
     )

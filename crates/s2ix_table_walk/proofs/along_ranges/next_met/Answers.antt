@@ -26,13 +26,13 @@ returns-in-Some-clause-walk g c =
     c.next_place-walk.ensures.leads).walks
 
 pub returns-in-Some-clause-paid : goal.returns-in-Some-clause-paid
-returns-in-Some-clause-paid g c calls few paid =
+returns-in-Some-clause-paid g c calls within_limit paid =
     let walk = c.args.walk.now in
     let outer = c.next_place-walk.result in
     let s = g.R.Reader.shown c.args.reader.now in
     look_pays s c.args.cells.now
     (record { cell = walk.cell; range = walk.range; seen = walk.seen; from = walk.from; place = outer; known = walk.known }) outer calls _ _
-    few c.in-Some.ensures.some c.in-Some.ensures.counts (open_pays s c.args.cells.now walk outer calls _ c.next_place-walk.ensures.fewer paid)
+    within_limit c.in-Some.ensures.some c.in-Some.ensures.counts (open_pays s c.args.cells.now walk outer calls _ c.next_place-walk.ensures.fewer paid)
 
 pub loop-walk-init : goal.loop-walk-init
 unfolding front_from
@@ -48,8 +48,8 @@ loop-walk-init g c =
       walk_closed s cells next opened.walks,
       sym (ap (λ (xs : Collection). xs ++ meeting_from cells walk.seen s.pairs) front) ∙ opened.left,
       c.new_pair.ensures.same,
-      λ calls few paid.
-          close_pays s cells next calls _ _ few c.new_pair.ensures.counts
+      λ calls within_limit paid.
+          close_pays s cells next calls _ _ within_limit c.new_pair.ensures.counts
           (open_pays s cells walk outer calls _ c.next_place-walk.ensures.fewer paid),
       refl,
     )
@@ -85,14 +85,14 @@ pub returns-in_err-walk-clause-same : goal.returns-in_err-walk-clause-same
 returns-in_err-walk-clause-same g c = c.advance.ensures.same ∙ c.loop-walk.invariant.2
 
 pub returns-in_err-walk-clause-paid : goal.returns-in_err-walk-clause-paid
-returns-in_err-walk-clause-paid g c calls few paid =
+returns-in_err-walk-clause-paid g c calls within_limit paid =
     let walk = c.loop-walk.walk in
     let s = g.R.Reader.shown c.args.reader.now in
     let none = ap (λ (o : Option Held). one_if_some o) c.from_residual.ensures in
     let same : calls ≡ calls + one_if_some c.from_residual.result = omega arith in
     subst (λ (k : ℕ). IsPaid s c.args.cells.now walk k (g.R.Reader.spent c.advance.new.reader)) same
     (subst (λ (z : Cost). IsPaid s c.args.cells.now walk calls z) (sym (c.advance.ensures.unread c.in_err-walk.was))
-    (c.loop-walk.invariant.3 calls few paid))
+    (c.loop-walk.invariant.3 calls within_limit paid))
 
 pub returns-in-Some-new_pair-clause-gives : goal.returns-in-Some-new_pair-clause-gives
 returns-in-Some-new_pair-clause-gives g c =
@@ -120,7 +120,7 @@ returns-in-Some-new_pair-clause-same g c =
     c.new_pair-in-loop-walk.ensures.same ∙ c.advance.ensures.same ∙ c.loop-walk.invariant.2
 
 pub returns-in-Some-new_pair-clause-paid : goal.returns-in-Some-new_pair-clause-paid
-returns-in-Some-new_pair-clause-paid g c calls few paid =
+returns-in-Some-new_pair-clause-paid g c calls within_limit paid =
     let walk = c.loop-walk.walk in
     let cells = c.args.cells.now in
     let next = c.in_ok-walk.field-0 in
@@ -129,8 +129,8 @@ returns-in-Some-new_pair-clause-paid g c calls few paid =
     let at =
     subst (λ (z : Shown g.row.R-Place.Denot).
     IsPaid z cells walk calls (g.R.Reader.spent c.loop-walk.reader) → IsPaid z cells next calls (g.R.Reader.spent c.advance.new.reader)) i.2
-    (c.in_ok-walk.ensures.paid calls) (i.3 calls few paid) in
-    look_pays s cells next next.place calls _ _ few c.in-Some-new_pair.ensures.some c.in-Some-new_pair.ensures.counts at
+    (c.in_ok-walk.ensures.paid calls) (i.3 calls within_limit paid) in
+    look_pays s cells next next.place calls _ _ within_limit c.in-Some-new_pair.ensures.some c.in-Some-new_pair.ensures.counts at
 
 pub loop-walk-preserved : goal.loop-walk-preserved
 unfolding front_from
@@ -151,12 +151,12 @@ loop-walk-preserved g c =
       walk_closed s cells next walks,
       sym (ap (λ (xs : Collection). xs ++ meeting_from cells next.seen s.pairs) front) ∙ sym left ∙ i.1,
       c.new_pair-in-loop-walk.ensures.same ∙ same,
-      λ calls few paid.
+      λ calls within_limit paid.
           let at =
           subst (λ (z : Shown g.row.R-Place.Denot).
           IsPaid z cells walk calls (g.R.Reader.spent c.loop-walk.reader)
           → IsPaid z cells next calls (g.R.Reader.spent c.advance.new.reader))
-          i.2 (c.in_ok-walk.ensures.paid calls) (i.3 calls few paid) in
-          close_pays s cells next calls _ _ few c.new_pair-in-loop-walk.ensures.counts at,
+          i.2 (c.in_ok-walk.ensures.paid calls) (i.3 calls within_limit paid) in
+          close_pays s cells next calls _ _ within_limit c.new_pair-in-loop-walk.ensures.counts at,
       refl,
     )

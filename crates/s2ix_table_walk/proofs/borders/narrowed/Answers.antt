@@ -42,7 +42,7 @@ in_middle g c =
     let before = c.if-before-at.false in
     let most = is.most in
     let side = c.side-among.ensures in
-    let part = side.most in
+    let part = side.at_most in
     let twice = (half_room c.args.at.room c.args.at.among.size is.power is.most (omega arith)).twice in
     after_probe s c.args.leaf c.args.at
     (record { among = c.side-among.result; low = c.args.at.low; high = c.args.at.high; room = c.args.at.room / 2 })
@@ -71,7 +71,7 @@ at_border g c low high order within =
     let front = c.if-before-at-2.false in
     let back = c.if-at-before.false in
     let side = c.side-among-2.ensures in
-    let part = side.most in
+    let part = side.at_most in
     let place : get_or s.borders c.next_border-next.result 0
     ≡ c.args.at.among.first + (c.border-border.result - c.args.at.among.first) =
     let border = c.border-border.ensures in omega arith in

@@ -13,7 +13,7 @@ pub returns-clause-probes : goal.returns-clause-probes
 returns-clause-probes g c =
     let power = c.power_within.ensures in
     let paid = c.halve_groups-left.ensures.probes in
-    let few = c.min.ensures in
+    let within_limit = c.min.ensures in
     let pays = groups_pay power.0 c.power_within.result c.args.among.size
     ((c.args.among.first + c.args.among.size - c.sampled_by-first.result - 1) / 16 + 1) c.min.result power.1 power.2
     c.if-groups-power_within.false (omega arith) (omega arith) in

@@ -25,7 +25,7 @@ overflow_add-result c =
     let pair = has_pair chunks c.args.place place in
     let node = pair.node in
     let own = chunk_few chunks c.args.place.chunk in
-    let few = c.self.invariant.are_chunks.few in
+    let within_limit = c.self.invariant.are_chunks.within_limit in
     omega arith
 
 pub outer-requires : goal.outer-requires

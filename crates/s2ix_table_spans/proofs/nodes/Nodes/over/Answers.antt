@@ -4,4 +4,4 @@ use Rattle.s2ix_table_spans.proofs.nodes.Nodes.over.Goals as goal
 pub returns : goal.returns
 returns c =
     nodes_of_pass c.args.pairs.now c.args.from c.args.to c.in_ok-pass.pass c.trim-starts.result.items c.trim-firsts.result.items c.requires.rises
-    c.requires.few c.requires.span c.in_ok-pass.ensures c.trim-starts.ensures c.trim-firsts.ensures
+    c.requires.within_limit c.requires.span c.in_ok-pass.ensures c.trim-starts.ensures c.trim-firsts.ensures

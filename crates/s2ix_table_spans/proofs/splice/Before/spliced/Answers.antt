@@ -57,7 +57,7 @@ returns c =
     let next = c.args.next.now in
     let base = c.moved-base.result in
     let own = c.in_ok-own.own in
-    let cut = c.cut-cut.result in
+    let ranges = c.ranges_over-ranges.result in
     let block = subst (λ (k : ℕ). AreNodes (take b.new (drop b.start next)) k (end_of b.cell) own.outer.items own.starts.items own.firsts.items)
     c.span_start.ensures
     (subst (λ (k : ℕ). AreNodes (take b.new (drop b.start next)) c.span_start.result k own.outer.items own.starts.items own.firsts.items)
@@ -68,14 +68,14 @@ returns c =
     let on_base = ap (chain_of next) at ∙ base_moved t.held.now next b.cell b.start b.old b.new c.base.result c.requires.block c.base.ensures.beside
     c.base.ensures.around in
     let all = nodes_spliced t.held.now next b.cell b.start b.old b.new t.from t.to t.outer.now t.starts.now t.firsts.now own.outer.items
-    own.starts.items own.firsts.items base cut.first cut.last c.requires.block c.requires.nodes block c.cut-cut.ensures c.requires.rises
-    c.requires.few c.requires.span on_base in
+    own.starts.items own.firsts.items base ranges.first ranges.last c.requires.block c.requires.nodes block c.ranges_over-ranges.ensures c.requires.rises
+    c.requires.within_limit c.requires.span on_base in
     let all_is = subst (λ n. AreSpliced next b.start b.old b.new n base t.from t.to t.outer.now t.starts.now t.firsts.now own.outer.items
-    own.starts.items own.firsts.items cut.first cut.last) (sym c.requires.count) all in
+    own.starts.items own.firsts.items ranges.first ranges.last) (sym c.requires.count) all in
     all_ok c.joined.result
     (λ nodes. nodes.outer.items ≡ joined_places b.start b.old b.new b.count base (take b.start t.outer.now) own.outer.items (drop (b.start + b.old) t.outer.now))
-    (λ nodes. nodes.starts.items ≡ take cut.first t.starts.now ++ (own.starts.items ++ drop cut.last t.starts.now))
-    (λ nodes. nodes.firsts.items ≡ joined_places b.start b.old b.new b.count base (take cut.first t.firsts.now) own.firsts.items (drop cut.last t.firsts.now))
+    (λ nodes. nodes.starts.items ≡ take ranges.first t.starts.now ++ (own.starts.items ++ drop ranges.last t.starts.now))
+    (λ nodes. nodes.firsts.items ≡ joined_places b.start b.old b.new b.count base (take ranges.first t.firsts.now) own.firsts.items (drop ranges.last t.firsts.now))
     (λ nodes. AreNodes next t.from t.to nodes.outer.items nodes.starts.items nodes.firsts.items)
     (λ nodes o s f.
     same_nodes next t.from t.to _ _ _ nodes.outer.items nodes.starts.items nodes.firsts.items o s f all_is)

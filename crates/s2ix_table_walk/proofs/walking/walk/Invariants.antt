@@ -2,7 +2,7 @@ use Rattle.std.proofs.Common.{◌≡◌, ◌+◌, ◌-◌, length, ℕ, Bool}
 use Rattle.s2ix_table_walk.specs.Calls.{MayVisit, CallsOn}
 use Rattle.s2ix_table_walk.specs.Meeting.{meeting_of}
 use Rattle.s2ix_table_walk.specs.Walking.{left_of}
-use Rattle.s2ix_table_walk.proofs.visit.walk.Given as goal
+use Rattle.s2ix_table_walk.proofs.walking.walk.Given as goal
 
 abbrev pub invariant-loop-held : goal.invariant-loop-held
 invariant-loop-held g l =

@@ -3,7 +3,7 @@ use Rattle.s2ix_table_walk.specs.Meeting.{meeting_of}
 use Rattle.s2ix_table_walk.proofs.Visits.{may_same, no_call, last_call, one_call}
 use Rattle.s2ix_table_walk.specs.Walking.{left_of}
 use Rattle.s2ix_table_walk.proofs.Calling.{calls_same, meeting_same, paid_same, read_same}
-use Rattle.s2ix_table_walk.proofs.visit.walk.Goals as goal
+use Rattle.s2ix_table_walk.proofs.walking.walk.Goals as goal
 
 pub loop-held-init : goal.loop-held-init
 loop-held-init g c =

@@ -4,7 +4,7 @@ use Rattle.s2id_core.specs.CellId.{raw_of}
 use Rattle.s2id_core.proofs.Nested.{span}
 use Rattle.s2ix_table_spans.proofs.Bases.{cut_within, cut_to_end, cell_in_span}
 use Rattle.s2ix_table_spans.proofs.Windows.{starts_odd, starts_rise, first_start}
-use Rattle.s2ix_table_spans.proofs.splice.Before.cut.Goals as goal
+use Rattle.s2ix_table_spans.proofs.splice.Before.ranges_over.Goals as goal
 
 pub last_start-first-requires-clause-rises : goal.last_start-first-requires-clause-rises
 last_start-first-requires-clause-rises c =

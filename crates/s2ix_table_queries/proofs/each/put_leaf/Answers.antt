@@ -3,7 +3,7 @@ use Rattle.std.proofs.Common.{◌≡◌, ◌≤◌, length, take, sym, ◌∙◌
 use Rattle.std.proofs.lemmas.List.{length-append, take-take}
 use Rattle.s2ix_table_walk.specs.Places.{from_place}
 use Rattle.s2ix_table_queries.proofs.Linking.{ends_behind, over_leaf, put_behind}
-use Rattle.s2ix_table_queries.proofs.each.put_contents.Goals as goal
+use Rattle.s2ix_table_queries.proofs.each.put_leaf.Goals as goal
 
 pub returns-in_err-at-clause-short : goal.returns-in_err-at-clause-short
 returns-in_err-at-clause-short g c = λ none.
