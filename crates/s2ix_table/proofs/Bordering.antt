@@ -33,7 +33,7 @@ parts_begin {parts} {heavy} {starts} {offsets} {faces} {count} are =
           let within = part.within in
           let place = place_of m 0 are (omega arith) in
           omega arith;
-      few = omega arith;
+      within_limit = omega arith;
       rise = λ j m next lt.
           let le = places_rise j m are (omega arith) (omega arith) in
           let one = place_of j 0 are (omega arith) in

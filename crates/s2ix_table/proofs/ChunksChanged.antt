@@ -112,7 +112,7 @@ pub record ChunksMade (total : Collection) (made ahead : List Collection) (rest 
   pub whole : all_of made ++ changed (all_of ahead) rest ≡ total
 
 no_chunks : AreChunks []
-no_chunks = record { rises = tt; few = omega arith; filled = tt; one_cell = λ chunk (k, lt, e). absurd (omega arith) }
+no_chunks = record { rises = tt; within_limit = omega arith; filled = tt; one_cell = λ chunk (k, lt, e). absurd (omega arith) }
 
 pub none_made : (made chunks : List Collection) (es : List Entry) → made ≡ [] → AreChunks chunks → IsChangeList es
     → ChunksMade (changed (all_of chunks) es) made chunks es
@@ -127,18 +127,18 @@ pub record IsNext (total : Collection) (made : List Collection) (chunk : Collect
   pub one_cell : IsOfOneCell chunk
   pub own_rise : IsChangeList own
   pub rises : IsCollection (all_of made ++ changed chunk own)
-  pub few : length (all_of made ++ changed chunk own) ≤ 1000000
+  pub within_limit : length (all_of made ++ changed chunk own) ≤ 1000000
   pub ahead_are : AreChunks ahead
   pub rise : IsChangeList rest
   pub whole : (all_of made ++ changed chunk own) ++ changed (all_of ahead) rest ≡ total
 
 later_chunks : (p : Collection) (ps : List Collection) → AreChunks (p ∷ ps) → AreChunks ps
 later_chunks p ps are =
-    let few = are.few in
+    let within_limit = are.within_limit in
     let long = length-append p (all_of ps) in
     record {
       rises = back_rises 0 p (all_of ps) are.rises;
-      few = omega arith;
+      within_limit = omega arith;
       filled = are.filled.1;
       one_cell = λ chunk held. are.one_cell chunk (in_tail p ps chunk held);
     }
@@ -146,7 +146,7 @@ later_chunks p ps are =
 next_of : (total : Collection) (made ps : List Collection) (p : Collection) (rest own behind : List Entry) (k : ℕ) → ChunksMade total made (p ∷ ps) rest
     → IsCollection total → length total ≤ 1000000 → AreEntriesUpTo (p ∷ ps) 0 rest k → own ≡ take k rest → behind ≡ drop k rest
     → IsNext total made p own ps behind
-next_of total made ps p rest own behind k was rises few cut own_is behind_is =
+next_of total made ps p rest own behind k was rises within_limit cut own_is behind_is =
     let n = cut.rank in
     let split : own ++ behind ≡ rest = ap₂ (λ (xs ys : List Entry). xs ++ ys) own_is behind_is ∙ take-append-drop k rest in
     let below : AreEntriesBelow n own = subst (AreEntriesBelow n) (sym own_is) cut.entries in
@@ -165,7 +165,7 @@ next_of total made ps p rest own behind k was rises few cut own_is behind_is =
       one_cell = was.ahead_are.one_cell p (at_head p ps);
       own_rise = rise_in_front 0 own behind (subst (IsChangeListFrom 0) (sym split) was.rise);
       rises = front_rises 0 (all_of made ++ changed p own) (changed (all_of ps) behind) (subst (IsCollectionFrom 0) (sym whole) rises);
-      few = omega arith;
+      within_limit = omega arith;
       ahead_are = later_chunks p ps was.ahead_are;
       rise = change_lower 0 n behind (omega arith) later;
       whole = whole;
@@ -174,9 +174,9 @@ next_of total made ps p rest own behind k was rises few cut own_is behind_is =
 pub next_chunk : (total : Collection) (made ahead : List Collection) (chunk : Collection) (rest own behind : List Entry) (k : ℕ)
     → ChunksMade total made ahead rest → IsCollection total → length total ≤ 1000000 → 0 < length ahead → chunk ≡ get_or ahead 0 chunk
     → AreEntriesUpTo ahead 0 rest k → own ≡ take k rest → behind ≡ drop k rest → IsNext total made chunk own (drop 1 ahead) behind
-next_chunk total made [] chunk rest own behind k was rises few some at cut own_is behind_is = absurd (omega arith)
-next_chunk total made (p ∷ ps) chunk rest own behind k was rises few some at cut own_is behind_is =
-    subst (λ c. IsNext total made c own ps behind) (sym at) (next_of total made ps p rest own behind k was rises few cut own_is behind_is)
+next_chunk total made [] chunk rest own behind k was rises within_limit some at cut own_is behind_is = absurd (omega arith)
+next_chunk total made (p ∷ ps) chunk rest own behind k was rises within_limit some at cut own_is behind_is =
+    subst (λ c. IsNext total made c own ps behind) (sym at) (next_of total made ps p rest own behind k was rises within_limit cut own_is behind_is)
 
 -- with what is made of it, the chunks behind it are ahead
 pub chunk_made : (total : Collection) (made now ahead later : List Collection) (chunk : Collection) (own rest : List Entry)
@@ -202,13 +202,13 @@ AreOfOneCell chunks = (chunk : Collection) → Contains chunks chunk → IsOfOne
 pub chunk_pushed : (made now : List Collection) (chunk new : Collection) → AreChunks made → IsCollection (all_of made ++ chunk)
     → length (all_of made ++ chunk) ≤ 1000000 → 0 < length chunk → IsOfOneCell chunk → new ≡ chunk → now ≡ made ++ new ∷ []
     → AreChunks now × (all_of now ≡ all_of made ++ chunk)
-chunk_pushed made now chunk new are rises few some one same put =
+chunk_pushed made now chunk new are rises within_limit some one same put =
     let all : all_of now ≡ all_of made ++ chunk =
     ap all_of put ∙ all_push made new ∙ ap (λ (hs : Collection). all_of made ++ hs) same in
     let long = ap (λ (hs : Collection). length hs) all in (
       record {
         rises = subst IsCollection (sym all) rises;
-        few = omega arith;
+        within_limit = omega arith;
         filled = subst AreFilled (sym put) (filled_push made new chunk are.filled same some);
         one_cell = subst AreOfOneCell (sym put) (λ c held. elim (Contains-push_cases made new c held) [
           | inl old ↦ are.one_cell c old
@@ -221,12 +221,12 @@ chunk_pushed made now chunk new are rises few some one same put =
 -- chunks behind others
 pub chunks_joined : (made now new : List Collection) (hs : Collection) → AreChunks made → AreChunks new → all_of new ≡ hs
     → IsCollection (all_of made ++ hs) → length (all_of made ++ hs) ≤ 1000000 → now ≡ made ++ new → AreChunks now × (all_of now ≡ all_of made ++ hs)
-chunks_joined made now new hs are new_are same rises few put =
+chunks_joined made now new hs are new_are same rises within_limit put =
     let all : all_of now ≡ all_of made ++ hs = ap all_of put ∙ all_append made new ∙ ap (λ (ks : Collection). all_of made ++ ks) same in
     let long = ap (λ (ks : Collection). length ks) all in (
       record {
         rises = subst IsCollection (sym all) rises;
-        few = omega arith;
+        within_limit = omega arith;
         filled = subst AreFilled (sym put) (filled_append made new are.filled new_are.filled);
         one_cell = subst AreOfOneCell (sym put) (λ c held. elim (Contains-append_cases made new c held) [
           | inl old ↦ are.one_cell c old
@@ -238,7 +238,7 @@ chunks_joined made now new hs are new_are same rises few put =
 
 -- so many pairs behind others
 pub behind_few : (front back : Collection) → length (front ++ back) ≤ 1000000 → length back ≤ 1000000
-behind_few front back few = let sum = length-append front back in omega arith
+behind_few front back within_limit = let sum = length-append front back in omega arith
 
 -- if no chunk is ahead, what the entries left make of no pairs is behind all that is made
 pub rest_made : (total : Collection) (made ahead : List Collection) (rest : List Entry) → ChunksMade total made ahead rest → length ahead ≡ 0

@@ -29,7 +29,7 @@ pub inner_near : {parts : List SpanRanges} {heavy : Collection} {starts : List �
     → past ≡ (k + (18446744073709551616 - (o.place + 1))) % 18446744073709551616 → past < many - 2
     → IsInner parts offsets k part past
 inner_near {parts} {heavy} {starts} {offsets} {faces} {count} k part past many o are lt ranges read fits is less =
-    let few = ends_few part are lt in
+    let within_limit = ends_few part are lt in
     let at = ap (λ (x : Offset). x.place) read in
     let place = place_of part 0 are lt in
     let here = between (o.place + 1) k (many - 2) past fits (omega arith) is less in

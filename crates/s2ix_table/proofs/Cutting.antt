@@ -189,7 +189,7 @@ clean_cut b from to k l e d ts ls es within lists_fit entries_fit at was end beg
     let split = split_lists l ls in
     let entries = take-append-drop e es in
     let count = sym (length-append (all_of (take l ls)) (all_of (drop l ls))) ∙ ap (λ (hs : Collection). length hs) split in
-    let few = was.few in
+    let within_limit = was.within_limit in
     let rise : IsChangeListFrom 0 (take e es ++ drop e es) = subst (λ xs. IsChangeListFrom 0 xs) (sym entries) was.entries_rise in
     let lists : IsCollectionFrom 0 (all_of (take l ls) ++ all_of (drop l ls)) = subst (λ hs. IsCollectionFrom 0 hs) (sym split) was.rises in
     record {
@@ -201,7 +201,7 @@ clean_cut b from to k l e d ts ls es within lists_fit entries_fit at was end beg
         made = made.0;
         entries_rise = rise_in_front 0 (take e es) (drop e es) rise;
         rises = front_rises 0 (all_of (take l ls)) (all_of (drop l ls)) lists;
-        few = omega arith;
+        within_limit = omega arith;
         begins = begins_front from (all_of (take l ls)) (all_of (drop l ls)) (subst (λ hs. BeginsFrom hs from) (sym split) was.begins);
         ends = subst (λ hs. EndsBy hs b) made.0
             (changed_cells (λ (c : CellId). end_of c ≤ b) (held_in (take k ts)) (take e es) (all_end from (take k ts) b front).1 end);
@@ -211,7 +211,7 @@ clean_cut b from to k l e d ts ls es within lists_fit entries_fit at was end beg
         made = made.1;
         entries_rise = rise_at_end 0 (take e es) (drop e es) rise;
         rises = back_rises 0 (all_of (take l ls)) (all_of (drop l ls)) lists;
-        few = omega arith;
+        within_limit = omega arith;
         begins = subst (λ hs. BeginsFrom hs b) made.1
             (changed_cells (λ (c : CellId). b ≤ first_of c) (held_in (drop k ts)) (drop e es) (all_begin b (drop k ts) to back) begin);
         ends = ends_back to (all_of (take l ls)) (all_of (drop l ls)) (subst (λ hs. EndsBy hs to) (sym split) was.ends);
@@ -226,7 +226,7 @@ nothing_changed n = record {
   made = refl;
   entries_rise = tt;
   rises = tt;
-  few = omega arith;
+  within_limit = omega arith;
   begins = λ h is. absurd (none_in_nil h is);
   ends = λ h is. absurd (none_in_nil h is);
 }

@@ -44,7 +44,7 @@ pub face_put_in : {parts : List SpanRanges} {heavy : List (List Collection)} {ov
     → AreAllMade (changed (together (held_in parts) (heavy_in heavy)) change) (set heavy face chunks)
     (with_parts parts (first_of_face faces face + first) (first_of_face faces face + end) made)
     (take (first_of_face faces face + first) overs ++ (made_overs ++ drop (first_of_face faces face + end) overs))
-face_put_in {parts} {heavy} {overs} {starts} {offsets} {faces} {count} change face first end made made_overs chunks joined layered are six only rises few new =
+face_put_in {parts} {heavy} {overs} {starts} {offsets} {faces} {count} change face first end made made_overs chunks joined layered are six only rises within_limit new =
     let old = together (held_in parts) (heavy_in heavy) in
     let hs = changed old change in
     let now = set heavy face chunks in
@@ -58,7 +58,7 @@ face_put_in {parts} {heavy} {overs} {starts} {offsets} {faces} {count} change fa
       stay = λ n lt ne. sym (unchanged_stay old change n (only n lt ne));
       heavy_stay = λ n lt ne. get_or-set_other heavy face n chunks [] ne;
     })
-    six (length-set heavy face chunks ∙ many) rises few
+    six (length-set heavy face chunks ∙ many) rises within_limit
     (subst (λ cs. IsFaceWith face (held_on face hs) (parts_of_face parts faces face) (of_face overs faces face) first end made made_overs cs) (sym there) new)
     own.within (omega arith)
 

@@ -125,12 +125,12 @@ pub record AreOver (face : ℕ) (ts : List SpanRanges) (heavy : List Collection)
   pub rise : IsChangeList own
   pub apart : HaveOtherCells own (held_in ts)
   pub on_face : AreOnFace face (changed (all_of heavy) own)
-  pub few : length (changed (all_of heavy) own) ≤ 1000000
+  pub within_limit : length (changed (all_of heavy) own) ≤ 1000000
 
 pub are_over : (face : ℕ) (ts : List SpanRanges) (overs : List (Option HeavyPlace)) (heavy : List Collection) (es own : List Entry)
     → IsFaceLayered face heavy ts overs → IsChangeList es → AreOnFace face (changed (together (held_in ts) (all_of heavy)) es)
     → length (changed (together (held_in ts) (all_of heavy)) es) ≤ 1000000 → own ≡ over_entries ts heavy es → AreOver face ts heavy own
-are_over face ts overs heavy es own was rise on_face few is =
+are_over face ts overs heavy es own was rise on_face within_limit is =
     let test = goes_over ts (all_of heavy) in
     let layers = face_layers face ts overs heavy was in
     let c = all_rise (face_begin face) ts (face_begin (face + 1)) was.neighbours in
@@ -139,7 +139,7 @@ are_over face ts overs heavy es own was rise on_face few is =
       rise = entries_rise test 0 es rise;
       apart = heavy_entries test (held_in ts) (all_of heavy) es layers;
       on_face = heavy_on_face face test (held_in ts) (all_of heavy) es layers c d rise on_face;
-      few = few_heavy test (held_in ts) (all_of heavy) es layers c d rise few;
+      within_limit = few_heavy test (held_in ts) (all_of heavy) es layers c d rise within_limit;
     })
 
 -- the face after them, and what the others make of it

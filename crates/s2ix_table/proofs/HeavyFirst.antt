@@ -127,7 +127,7 @@ by_layers test light heavy es layers c d rise =
 pub few_heavy : (test : CellId → Bool) (light heavy : Collection) (es : List Entry) → AreLayersBy test light heavy → IsCollection light
     → IsCollection heavy → IsChangeList es → length (changed (together light heavy) es) ≤ 1000000
     → length (changed heavy (entries_where test es)) ≤ 1000000
-few_heavy test light heavy es layers c d rise few =
+few_heavy test light heavy es layers c d rise within_limit =
     let own = changed heavy (entries_where test es) in
     let other = entries_where (fails test) es in
     let both = ap (λ (hs : Collection). length hs) (changed_together test light heavy es layers c d rise) in

@@ -125,7 +125,7 @@ laid_joined {parts} {heavy} {overs} starts offsets faces count is begins places 
   starts_are = begins;
   offsets_are = places;
   faces_are = firsts;
-  few = is.few;
+  within_limit = is.within_limit;
   counted = counts;
 }
 

@@ -69,12 +69,12 @@ pub record Layering (chunks : List Collection) (light : Collection) (from to : �
   pub odd : start % 2 ≡ 1
   pub by : start ≤ to
   pub rises : IsCollectionFrom (start * 2147483648) rest
-  pub few : length rest ≤ 1000000
+  pub within_limit : length rest ≤ 1000000
   pub ends : EndsBy rest to
 
 pub layering_start : (chunks : List Collection) (light : Collection) (from to : ℕ) → IsCollection light → length light ≤ 1000000
     → IsInSpan light from to → Layering chunks light from to [] [] light from
-layering_start chunks light from to rises few within =
+layering_start chunks light from to rises within_limit within =
     let some = within.some in
     record {
       neighbours = refl;
@@ -83,7 +83,7 @@ layering_start chunks light from to rises few within =
       odd = within.odd;
       by = omega arith;
       rises = from_cut from light rises within.begins;
-      few = few;
+      within_limit = within_limit;
       ends = within.ends;
     }
 
@@ -115,7 +115,7 @@ both_counts count rest =
     ap (λ (hs : Collection). length hs) (sym (take-append-drop count rest)) ∙ length-append (take count rest) (drop count rest)
 
 pub own_few : (count : ℕ) (rest : Collection) → length rest ≤ 1000000 → length (take count rest) ≤ 1000000
-own_few count rest few = let both = both_counts count rest in omega arith
+own_few count rest within_limit = let both = both_counts count rest in omega arith
 
 pub layering_next : (chunks : List Collection) (light : Collection) (from to : ℕ) (parts ts : List SpanRanges)
     (overs : List (Option HeavyPlace)) (rest : Collection)
@@ -127,7 +127,7 @@ pub layering_next : (chunks : List Collection) (light : Collection) (from to : �
 layering_next chunks light from to parts ts overs rest start end until count over was is le by odd are made later =
     let split = take-append-drop count rest in
     let both = both_counts count rest in
-    let few = was.few in
+    let within_limit = was.within_limit in
     record {
       neighbours = neighbours_append from parts start ts end was.neighbours are;
       overs_are = overs_append chunks parts ts overs (replicate (length ts) over) was.overs_are
@@ -140,7 +140,7 @@ layering_next chunks light from to parts ts overs rest start end until count ove
       odd = odd;
       by = by;
       rises = later;
-      few = omega arith;
+      within_limit = omega arith;
       ends = ends_back to (take count rest) (drop count rest) (subst (λ hs. EndsBy hs to) (sym split) was.ends);
     }
 

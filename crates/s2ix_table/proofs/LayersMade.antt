@@ -181,7 +181,7 @@ pub record AreAllMade (hs : Collection) (heavy : List (List Collection)) (parts 
 pub all_layers : (hs : Collection) (heavy : List (List Collection)) (parts : List SpanRanges) (overs : List (Option HeavyPlace)) (face : ℕ)
     → AreLayersMade hs heavy parts overs face → face ≡ 6 → length heavy ≡ 6 → IsCollection hs → length hs ≤ 1000000
     → AreAllMade hs heavy parts overs
-all_layers hs heavy parts overs face made last six rises few =
+all_layers hs heavy parts overs face made last six rises within_limit =
     let is = subst (AreLayersMade hs heavy parts overs) last made in
     let light = held_in parts in
     let all_heavy = heavy_in heavy in
@@ -200,7 +200,7 @@ all_layers hs heavy parts overs face made last six rises few =
         layered = record { six = six; on_faces = on; led = is.led };
         chunks = chunks;
         apart = apart;
-        few = omega (arith, few, ap length pairs);
+        within_limit = omega (arith, within_limit, ap length pairs);
       };
       faces = is.begins;
       pairs = pairs;

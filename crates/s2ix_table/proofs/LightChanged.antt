@@ -145,13 +145,13 @@ touched_changed start ts stop first count from to es are begin end rise =
 pub record AreTouchedPairs (before after : Collection) (from to : ℕ) : Type 0 where
   pub rises : IsCollection before
   pub rises_then : IsCollection after
-  pub few : length after ≤ 1000000
+  pub within_limit : length after ≤ 1000000
   pub span : IsInSpan after from to
   pub leaves : to ≤ leaf_end
 
 touched_few : (before own after light heavy all : Collection) → light ≡ before ++ (own ++ after) → all ≡ together light heavy
     → IsCollection light → IsCollection heavy → ShareNoCell light heavy → length all ≤ 1000000 → length own ≤ 1000000
-touched_few before own after light heavy all split both c d apart few =
+touched_few before own after light heavy all split both c d apart within_limit =
     let whole = ap (λ (hs : Collection). length hs) both in
     let sum = length_together light heavy c d (cells_part_pairs light heavy apart) in
     let parts = ap (λ (hs : Collection). length hs) split in
@@ -170,7 +170,7 @@ pub touched_pairs : (face : ℕ) (ts : List SpanRanges) (overs : List (Option He
     → AreTouched ts es (face_begin (face + 1)) first end from to → IsChangeList es → HaveLightCells es (all_of heavy)
     → length (changed (together (held_in ts) (all_of heavy)) es) ≤ 1000000 → before ≡ held_in (take (end - first) (drop first ts))
     → AreTouchedPairs before (changed before es) from to
-touched_pairs face ts overs heavy es first end from to before six was is rise light few same =
+touched_pairs face ts overs heavy es first end from to before six was is rise light within_limit same =
     let start = face_begin face in
     let stop = face_begin (face + 1) in
     let n = end - first in
@@ -182,11 +182,11 @@ touched_pairs face ts overs heavy es first end from to before six was is rise li
     subst (λ hs. AreTouchedPairs hs (changed hs es) from to) (sym same) (record {
       rises = all_rise from own to parts.mid;
       rises_then = changed_keeps (held_in own) es (all_rise from own to parts.mid) rise;
-      few = touched_few (held_in (take first ts)) (changed (held_in own) es) (held_in (drop (first + n) ts)) (changed (held_in ts) es)
+      within_limit = touched_few (held_in (take first ts)) (changed (held_in own) es) (held_in (drop (first + n) ts)) (changed (held_in ts) es)
           (all_of heavy) (changed (together (held_in ts) (all_of heavy)) es)
           (touched_changed start ts stop first n from to es parts is.entries_begin is.entries_end rise)
           (light_layer (held_in ts) (all_of heavy) es c light) (changed_keeps (held_in ts) es c rise) was.are_chunks.rises
-          (still_apart (held_in ts) (all_of heavy) es was.apart light) few;
+          (still_apart (held_in ts) (all_of heavy) es was.apart light) within_limit;
       span = record {
         odd = span.0;
         odd_end = span.1;

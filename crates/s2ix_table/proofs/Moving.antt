@@ -84,11 +84,11 @@ few_all (o ∷ os) all = (all 0 (omega arith), few_all os (λ i lt. all (suc i) 
 
 from_movable : (from to : ℕ) (offset : Offset) (ts : List SpanRanges) → from ≤ offset.place → AreFew (map (moved from to) (offsets_from offset ts))
     → AreMovable from to (offsets_from offset ts)
-from_movable from to offset [] le few = record {}
-from_movable from to offset (t ∷ []) le few = (le, few.0, record {})
-from_movable from to offset (t ∷ u ∷ us) le few =
+from_movable from to offset [] le within_limit = record {}
+from_movable from to offset (t ∷ []) le within_limit = (le, within_limit.0, record {})
+from_movable from to offset (t ∷ u ∷ us) le within_limit =
     let rises = after_rises offset t.ranges u.ranges in
-    (le, few.0, from_movable from to (offset_after offset t.ranges u.ranges) (u ∷ us) (omega arith) few.1)
+    (le, within_limit.0, from_movable from to (offset_after offset t.ranges u.ranges) (u ∷ us) (omega arith) within_limit.1)
 
 -- ---- offsets from a part on
 
@@ -189,11 +189,11 @@ after_read parts last offset n d e one next some lt is_one is_next is =
 pub last_few : (held : Collection) (parts : List SpanRanges) (os : List Offset) (n : ℕ) → AreOverSpans held 1 parts leaf_end → length held ≤ 1000000
     → 0 < n → n ≤ length parts → take n os ≡ take n (offsets_of parts)
     → (offset_at os (n - 1)).place + length (table_of parts (n - 1)).ranges ≤ 2000001
-last_few held parts os n are few some le before =
+last_few held parts os n are within_limit some le before =
     let last = sym (get_or-take n os (n - 1) no_offset (omega arith)) ∙ ap (λ ps. get_or ps (n - 1) no_offset) before
     ∙ get_or-take n (offsets_of parts) (n - 1) no_offset (omega arith) in
     let place = ap (λ (o : Offset). o.place) last in
-    let ends = ends_few held parts (n - 1) are few (omega arith) in
+    let ends = ends_few held parts (n - 1) are within_limit (omega arith) in
     omega (arith, place, ends)
 
 first_is : (parts : List SpanRanges) → 0 < length parts → offset_at (offsets_of parts) 0 ≡ first_offset
@@ -258,7 +258,7 @@ pub moved_right : (held : Collection) (parts : List SpanRanges) (os : List Offse
     → AreMovable (offset_at os n).place offset.place (drop n os)
     × (take n os ++ map (moved (offset_at os n).place offset.place) (drop n os) ≡ offsets_of parts)
 unfolding offset_with
-moved_right held parts os offset n end are few some lt many before behind le is same =
+moved_right held parts os offset n end are within_limit some lt many before behind le is same =
     let right = next_right parts os offset n some lt many before is in
     let old = offset_at os n in
     let here : max n end ≡ n = omega arith in
@@ -274,7 +274,7 @@ moved_right held parts os offset n end are few some lt many before behind le is 
     let left = length-drop n (offsets_of parts) in
     let few_moved = few_all (drop n (offsets_of parts)) (λ i less.
     let at = get_or-drop n (offsets_of parts) i no_offset in
-    let ends = ends_few held parts (n + i) are few (omega arith) in
+    let ends = ends_few held parts (n + i) are within_limit (omega arith) in
     let place_is = ap (λ (o : Offset). o.place) at in
     omega (arith, place_is, ends)) in
     let movable = from_movable old.place offset.place old (drop n parts) (omega arith)

@@ -53,7 +53,7 @@ all_light face ts us heavy overs are same none all =
     (subst₂ (λ (vs : List SpanRanges) (cs : List Collection). IsFaceLayered face cs vs (replicate (length ts) None)) (sym same) (sym none)
     (record {
       neighbours = are;
-      are_chunks = record { rises = tt; few = omega arith; filled = tt; one_cell = λ chunk is. absurd (none_in_nil chunk is) };
+      are_chunks = record { rises = tt; within_limit = omega arith; filled = tt; one_cell = λ chunk is. absurd (none_in_nil chunk is) };
       on_face = λ h is. absurd (none_in_nil h is);
       apart = λ l h light is. absurd (none_in_nil h is);
       overs_are = overs_none ts;

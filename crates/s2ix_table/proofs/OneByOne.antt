@@ -49,7 +49,7 @@ pub read_so_far : (hs : Collection) (from to place : ℕ) (held shown : Collecti
 read_so_far hs from to place held shown before after is =
     let begins = is.copied.begins in
     let ends = is.copied.ends in
-    record { made = place - from; counts = is.counts; some = omega arith; few = omega arith }
+    record { made = place - from; counts = is.counts; some = omega arith; within_limit = omega arith }
 
 -- and one read more, whose pair was not kept
 pub with_next : (hs : Collection) (from to place : ℕ) (held shown : Collection) (before after next_after : ℕ)
@@ -61,7 +61,7 @@ with_next hs from to place held shown before after next_after is short counts =
       made = suc (place - from);
       counts = counts ∙ ap (λ (n : ℕ). with_read n) is.counts;
       some = omega arith;
-      few = omega arith;
+      within_limit = omega arith;
     }
 
 -- nothing is read yet

@@ -138,7 +138,7 @@ pub record Parting (held : List Collection) (from to : ℕ) (parts : List SpanRa
   pub neighbours : AreNeighbours from parts start
   pub pairs : held_in parts ++ all_of rest ≡ all_of held
   pub rises : IsCollection (all_of rest)
-  pub few : length (all_of rest) ≤ 1000000
+  pub within_limit : length (all_of rest) ≤ 1000000
   pub seams : AreSeams rest bs to
   pub odd : start % 2 ≡ 1
   pub odd_end : to % 2 ≡ 1
@@ -148,13 +148,13 @@ pub record Parting (held : List Collection) (from to : ℕ) (parts : List SpanRa
 
 pub parting_start : (held : List Collection) (from to : ℕ) (seams : List ℕ) → IsCollection (all_of held) → length (all_of held) ≤ 1000000
     → IsInSpan (all_of held) from to → AreSeams held seams to → Parting held from to [] held seams from
-parting_start held from to seams rises few within are =
+parting_start held from to seams rises within_limit within are =
     let some = within.some in
     record {
       neighbours = refl;
       pairs = refl;
       rises = rises;
-      few = few;
+      within_limit = within_limit;
       seams = are;
       odd = within.odd;
       odd_end = within.odd_end;
@@ -189,7 +189,7 @@ parting_next held from to parts rest seams start k d part was within own begin e
     let seam = seam_at k rest seams to d was.odd_end within was.seams in
     let split = split_lists k rest in
     let count = own_count k rest in
-    let few = was.few in
+    let within_limit = was.within_limit in
     let by = seam.by in
     let odd = seam.odd in
     record {
@@ -200,7 +200,7 @@ parting_next held from to parts rest seams start k d part was within own begin e
           ∙ ap (λ hs. held_in parts ++ hs) split
           ∙ was.pairs;
       rises = back_rises 0 (all_of (take k rest)) (all_of (drop k rest)) (subst (λ hs. IsCollectionFrom 0 hs) (sym split) was.rises);
-      few = omega arith;
+      within_limit = omega arith;
       seams = seams_later k rest seams to within was.seams;
       odd = ap (λ n. n % 2) end ∙ odd;
       odd_end = was.odd_end;

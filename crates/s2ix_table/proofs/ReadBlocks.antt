@@ -63,7 +63,7 @@ between_rises hs held from n rises is =
 
 pub between_few : (hs held : Collection) (from to : ℕ) → length hs ≤ 1000000 → from ≤ to → to ≤ length hs
     → held ≡ take (to - from) (drop from hs) → length held ≤ 1000000
-between_few hs held from to few rises within is =
+between_few hs held from to within_limit rises within is =
     let left = length-drop from hs in
     let count : length (take (to - from) (drop from hs)) ≡ to - from = length-take-le (to - from) (drop from hs) (omega arith) in
     let long = ap (λ (xs : Collection). length xs) is in

@@ -26,21 +26,21 @@ reads_at_once (suc k) n fits =
 
 -- nothing was read
 pub none_read : (before after : ℕ) → after ≡ before → HasRead 0 0 before after
-none_read before after same = record { made = 0; counts = same; some = omega arith; few = omega arith }
+none_read before after same = record { made = 0; counts = same; some = omega arith; within_limit = omega arith }
 
 -- what was read first and what was read then
 pub both_read : (least most more_least more_most before between after : ℕ) → HasRead least most before between
     → HasRead more_least more_most between after → HasRead (least + more_least) (most + more_most) before after
 both_read least most more_least more_most before between after first then =
     let first_some = first.some in
-    let first_few = first.few in
+    let first_few = first.within_limit in
     let then_some = then.some in
-    let then_few = then.few in
+    let then_few = then.within_limit in
     record {
       made = then.made + first.made;
       counts = then.counts ∙ ap (λ (n : ℕ). with_reads then.made n) first.counts ∙ sym (reads_join then.made first.made before);
       some = omega arith;
-      few = omega arith;
+      within_limit = omega arith;
     }
 
 -- wider bounds
@@ -48,8 +48,8 @@ pub read_within : (least most less more before after : ℕ) → less ≤ least �
     → HasRead less more before after
 read_within least most less more before after low high r =
     let some = r.some in
-    let few = r.few in
-    record { made = r.made; counts = r.counts; some = omega arith; few = omega arith }
+    let within_limit = r.within_limit in
+    record { made = r.made; counts = r.counts; some = omega arith; within_limit = omega arith }
 
 -- counts that don't stop
 reads_are : (k n : ℕ) → k + n ≤ 18446744073709551615 → with_reads k n ≡ k + n
@@ -62,7 +62,7 @@ reads_are (suc k) n fits =
 first_reads : (least most after : ℕ) → most ≤ 18446744073709551615 → HasRead least most 0 after → (least ≤ after) × (after ≤ most)
 first_reads least most after fits r =
     let some = r.some in
-    let few = r.few in
+    let within_limit = r.within_limit in
     let is : after ≡ r.made + 0 = r.counts ∙ reads_are r.made 0 (omega arith) in
     (omega arith, omega arith)
 
@@ -75,7 +75,7 @@ face_reads d e p q l m s0 s1 s2 s3 same pairs low first second each =
 
 -- few pairs have few digits
 few_digits : (n : ℕ) → n ≤ 1000000 → binary_digits (n + 1) ≤ 40
-few_digits n few = omega (arith, digits_below 40, digits_rise (n + 1) (2 ^ 40 - 1) (omega (arith, few)))
+few_digits n within_limit = omega (arith, digits_below 40, digits_rise (n + 1) (2 ^ 40 - 1) (omega (arith, within_limit)))
 
 -- what the faces of a change take, if none was read before: at least as many as what is known, and few
 pub few_reads : (change : List Entry) (held : Collection) (least reads : ℕ) → IsRead held
@@ -84,10 +84,10 @@ pub few_reads : (change : List Entry) (held : Collection) (least reads : ℕ) �
 few_reads change held least reads is r =
     let p : ℕ = changed_count change held in
     let d : ℕ = binary_digits (length held + 1) in
-    let few = few_digits (length held) is.few in
+    let within_limit = few_digits (length held) is.within_limit in
     let on : Held → Bool = λ h. has_entry_on change (face_of h.pair.cell) in
     let less : p ≤ length held = omega (arith, length-filter on held, count_by-le-length on held) in
-    let all = is.few in
+    let all = is.within_limit in
     let six : faces_of change ≤ 6 = count_by-le-length (has_entry_on change) faces in
     let searches : faces_of change * (2 * d) ≤ 6 * (2 * d) = mul-le-mul_right (2 * d) six in
-    first_reads least (p + faces_of change * (2 * d)) reads (omega (arith, few, less, all, searches)) r
+    first_reads least (p + faces_of change * (2 * d)) reads (omega (arith, within_limit, less, all, searches)) r

@@ -11,13 +11,13 @@ use Rattle.s2ix_table.proofs.InSpans.{face_in_span}
 -- lists hold what lies on a face
 pub record AreOfFace (face : ℕ) (lists : List Collection) : Type 0 where
   pub rises : IsCollection (all_of lists)
-  pub few : length (all_of lists) ≤ 1000000
+  pub within_limit : length (all_of lists) ≤ 1000000
   pub span : IsInSpan (all_of lists) (face_begin face) (face_begin (face + 1))
 
 pub are_of_face : (face : ℕ) (hs : Collection) (lists : List Collection) → IsCollection hs → length hs ≤ 1000000
     → all_of lists ≡ held_on face hs → AreOfFace face lists
-are_of_face face hs lists rises few is = record {
+are_of_face face hs lists rises within_limit is = record {
   rises = subst IsCollection (sym is) (held_rises face 0 hs rises);
-  few = omega (arith, held_few face hs, few, ap length is);
+  within_limit = omega (arith, held_few face hs, within_limit, ap length is);
   span = subst (λ (xs : Collection). IsInSpan xs (face_begin face) (face_begin (face + 1))) (sym is) (face_in_span face (held_on face hs) (lie_on face hs));
 }

@@ -78,7 +78,7 @@ many_places {parts} {heavy} {starts} {offsets} {faces} {count} are = length-map 
 -- there are few ranges
 pub few_joined : {parts : List SpanRanges} {heavy : Collection} {starts : List ℕ} {offsets : List Offset} {faces : List ℕ} {count : ℕ} → AreJoined parts heavy starts offsets faces count → count ≤ 2000001
 few_joined {parts} {heavy} {starts} {offsets} {faces} {count} are =
-    let few = are.few in
+    let within_limit = are.within_limit in
     let counted = are.counted in
     let ranges = few_ranges (together (held_in parts) heavy) 1 leaf_end (joined_ranges (covered heavy parts)) (all_table are) in
     omega arith
@@ -116,7 +116,7 @@ offset_read {parts} {heavy} {starts} {offsets} {faces} {count} i o are lt is = l
 -- how far the ranges of a part reach
 pub ends_few : {parts : List SpanRanges} {heavy : Collection} {starts : List ℕ} {offsets : List Offset} {faces : List ℕ} {count : ℕ} (i : ℕ) → AreJoined parts heavy starts offsets faces count → i < length parts → (get_or offsets i no_offset).place + length (table_of parts i).ranges ≤ 2000001
 ends_few {parts} {heavy} {starts} {offsets} {faces} {count} i are lt =
-    let few = few_joined are in
+    let within_limit = few_joined are in
     let counted = are.counted in
     let within = (placed i no_table no_offset are lt).within in
     omega arith

@@ -59,15 +59,15 @@ later_cells hs n d rises some are other a b in_a in_b =
     let raw : Held → ℕ = λ h. raw_of h.pair.cell in
     let from = q.not_before in
     let within = q.within in
-    let few : n < length hs = omega arith in
+    let within_limit : n < length hs = omega arith in
     let first : raw a ≡ raw (get_or hs 0 d) =
     ap raw (sym p.is) ∙ ap (λ (c : CellId). raw_of c) (are p.place a p.not_after p.within)
     ∙ ap raw (get_or_default hs 0 a d (omega arith)) in
     let last : raw (get_or hs q.place d) ≡ raw b = ap raw (get_or_default hs q.place d b within ∙ q.is) in
-    let le = numbers_rise hs rises 0 n d (omega arith) few in
+    let le = numbers_rise hs rises 0 n d (omega arith) within_limit in
     let le_later = numbers_rise hs rises n q.place d from within in
     let ne : raw (get_or hs n d) ≡ raw (get_or hs 0 d) → ⊥ =
-    λ e. other few (same_cell (get_or hs n d).pair.cell (get_or hs 0 d).pair.cell e) in
+    λ e. other within_limit (same_cell (get_or hs n d).pair.cell (get_or hs 0 d).pair.cell e) in
     omega (arith, first, last, le, le_later, ne)
 
 -- ---- one run after another
@@ -80,13 +80,13 @@ run_and_later rest run later n is is_later =
 -- the first run of those that are left comes after all that came before
 pub run_after : (front rest run later held : Collection) → front ++ rest ≡ held → rest ≡ run ++ later → IsCollection held
     → length held ≤ 1000000 → HaveLesserCells front rest → 0 < length run → IsOfOneCell run → IsRunAfter front run
-run_after front rest run later held all parts rises few lesser some one =
+run_after front rest run later held all parts rises within_limit lesser some one =
     let whole : (front ++ run) ++ later ≡ held = append_assoc front run later ∙ ap (λ (hs : Collection). front ++ hs) (sym parts) ∙ all in
     let long = ap (λ (hs : Collection). length hs) whole in
     record {
       some = some;
       rises = front_rises 0 (front ++ run) later (subst IsCollection (sym whole) rises);
-      few = omega (arith, long, length-append (front ++ run) later);
+      within_limit = omega (arith, long, length-append (front ++ run) later);
       lesser = λ a b in_a in_b. lesser a b in_a (subst (λ (hs : Collection). Contains hs b) (sym parts) (Contains-append_left run later b in_b));
       one_cell = one;
     }

@@ -165,8 +165,8 @@ pub heavy_few : (light run : Collection) (chunks : List Collection) → AreSplit
 heavy_few light run chunks s r =
     let heavy = all_of chunks in
     let many = length_together light heavy s.rises s.are_chunks.rises (cells_part_pairs light heavy s.apart) in
-    let few = r.few in
-    omega (arith, many, few, length-append (together light heavy) run, length-append heavy run)
+    let within_limit = r.within_limit in
+    omega (arith, many, within_limit, length-append (together light heavy) run, length-append heavy run)
 
 -- ---- at the start
 
@@ -176,7 +176,7 @@ unfolding together
 none_split held = (
   record {
     rises = tt;
-    are_chunks = record { rises = tt; few = omega arith; filled = tt; one_cell = λ chunk (k, lt, e). absurd (omega arith) };
+    are_chunks = record { rises = tt; within_limit = omega arith; filled = tt; one_cell = λ chunk (k, lt, e). absurd (omega arith) };
     apart = λ l h (k, lt, e). absurd (omega arith);
   },
   refl,

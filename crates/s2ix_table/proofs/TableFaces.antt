@@ -235,7 +235,7 @@ pub one_face_put : (old hs : Collection) (heavy now : List (List Collection)) (p
     → end ≤ first_of_face faces (face + 1) - first_of_face faces face
     → AreAllMade hs now (with_parts parts (first_of_face faces face + first) (first_of_face faces face + end) made)
     (take (first_of_face faces face + first) overs ++ (made_overs ++ drop (first_of_face faces face + end) overs))
-one_face_put old hs heavy now parts made overs made_overs faces face first end are on six six_now rises few new by within =
+one_face_put old hs heavy now parts made overs made_overs faces face first end are on six six_now rises within_limit new by within =
     let rise = are.rise face six in
     let last = are.last in
     let many = are.many in
@@ -263,4 +263,4 @@ one_face_put old hs heavy now parts made overs made_overs faces face first end a
     all_layers hs now (with_parts parts (a + first) (a + end) made) (take (a + first) overs ++ (made_overs ++ drop (a + end) overs)) (face + 1 + m)
     (subst (λ ts. AreLayersMade hs now ts (take (a + first) overs ++ (made_overs ++ drop (a + end) overs)) (face + 1 + m)) (sym is_whole)
     (subst (λ os. AreLayersMade hs now ((take a parts ++ own_new) ++ up_to faces (face + 1) (face + 1 + m) parts) os (face + 1 + m)) (sym are_whole) whole))
-    there six_now rises few
+    there six_now rises within_limit

@@ -16,7 +16,7 @@ use Rattle.s2ix_table.proofs.Reading.{first_offset, no_offset}
 -- the ranges of a part end among all, of which there are few
 pub ends_few : (held : Collection) (parts : List SpanRanges) (i : ℕ) → AreOverSpans held 1 parts leaf_end → length held ≤ 1000000 → i < length parts
     → (get_or (offsets_of parts) i no_offset).place + length (table_of parts i).ranges ≤ 2000001
-ends_few held parts i are few lt =
+ends_few held parts i are within_limit lt =
     let within = (offsets_fit held parts leaf_end i no_table no_offset are lt).within in
     let ranges = few_ranges held 1 leaf_end (joined_ranges parts) (table_over_spans held 1 parts leaf_end (omega arith) are) in
     omega arith

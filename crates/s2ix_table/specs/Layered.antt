@@ -120,7 +120,7 @@ pub record IsLayout (parts : List SpanRanges) (heavy : List (List Collection)) (
   pub layered : AreLayered heavy parts overs
   pub chunks : (face : ℕ) → face < 6 → AreChunks (chunks_on heavy face)
   pub apart : ShareNoCell (held_in parts) (heavy_in heavy)
-  pub few : length (together (held_in parts) (heavy_in heavy)) ≤ 1000000
+  pub within_limit : length (together (held_in parts) (heavy_in heavy)) ≤ 1000000
 
 -- `same` tells whether the heavy pairs over two parts are the same; none over one part is a light pair of the other
 pub record AreTold (held next : Collection) (over next_over : Collection) (same : Bool) : Type 0 where

@@ -56,7 +56,7 @@ pub record IsChangedSpan (tables : List SpanRanges) (lists : List Collection) (e
   pub made : changed (held_in tables) entries ≡ all_of lists
   pub entries_rise : IsChangeList entries
   pub rises : IsCollection (all_of lists)
-  pub few : length (all_of lists) ≤ 1000000
+  pub within_limit : length (all_of lists) ≤ 1000000
   pub begins : BeginsFrom (all_of lists) from
   pub ends : EndsBy (all_of lists) to
 

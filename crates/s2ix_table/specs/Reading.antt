@@ -8,7 +8,7 @@ use Rattle.s2ix_table.specs.Faces.{held_on, changed_count, faces_of}
 -- held pairs that can be read: a collection of at most as many pairs as the widest limits let a bag hold
 pub record IsRead (held : Collection) : Type 0 where
   pub is_collection : IsCollection held
-  pub few : length held ≤ 1000000
+  pub within_limit : length held ≤ 1000000
 
 -- one pair more was read; counts stop at 2 ^ 64 - 1
 abbrev pub with_read : ℕ → ℕ
@@ -24,7 +24,7 @@ pub record HasRead (least most before after : ℕ) : Type 0 where
   pub made : ℕ
   pub counts : after ≡ with_reads made before
   pub some : least ≤ made
-  pub few : made ≤ most
+  pub within_limit : made ≤ most
 
 -- what two searches among held pairs may read
 abbrev pub two_searches : Collection → ℕ

@@ -21,6 +21,6 @@ pub record AreSplit (light : Collection) (chunks : List Collection) : Type 0 whe
 pub record IsRunAfter (front run : Collection) : Type 0 where
   pub some : 0 < length run
   pub rises : IsCollection (front ++ run)
-  pub few : length (front ++ run) ≤ 1000000
+  pub within_limit : length (front ++ run) ≤ 1000000
   pub lesser : HaveLesserCells front run
   pub one_cell : IsOfOneCell run

@@ -20,5 +20,5 @@ pub record AreJoined (parts : List SpanRanges) (heavy : Collection) (starts : Li
   pub starts_are : starts ≡ starts_of parts
   pub offsets_are : offsets ≡ offsets_of (covered heavy parts)
   pub faces_are : AreFirstParts starts faces
-  pub few : length (together (held_in parts) heavy) ≤ 1000000
+  pub within_limit : length (together (held_in parts) heavy) ≤ 1000000
   pub counted : count ≡ length (joined_ranges (covered heavy parts))

@@ -21,7 +21,7 @@ pub struct BagReader<'a> {
     reads: u64,
     ghost counted: { len ≡ length bag.now.held },
     ghost rises: { IsCollection bag.now.held } by { IsCollection-prop 0 bag.now.held },
-    ghost few: { length bag.now.held ≤ 1000000 },
+    ghost within_limit: { length bag.now.held ≤ 1000000 },
     ghost near: { before ≤ 1000000 },
     ghost part: { take (length own.now) (drop before bag.now.held) ≡ own.now },
 }
@@ -80,7 +80,7 @@ impl PairReader for BagReader<'_> {
 
     ghost spent = { λ reader. reader.reads };
 
-    ghost is_read = { λ reader. record { is_collection = reader.rises; few = reader.few } };
+    ghost is_read = { λ reader. record { is_collection = reader.rises; within_limit = reader.within_limit } };
 
     fn len(&self) -> usize {
         self.len

@@ -23,7 +23,7 @@ use std::alloc::Global;
 pub struct ChainTable {
     pub(crate) span: SpanTable,
     ghost rises: { IsCollection span.held } by { IsCollection-prop 0 span.held },
-    ghost few: { length span.held ≤ 1000000 },
+    ghost within_limit: { length span.held ≤ 1000000 },
     ghost begins: { span.from ≡ 1 },
     ghost ends: { span.to ≡ leaf_end },
     ghost table: { IsRangeTable span.held span.ranges },
@@ -34,7 +34,7 @@ pub struct ChainTable {
 fn flat_pairs(alloc: Global, bag: &Bag) -> Result<HeldList, OutOfMemory>
     ensures list { IfOk result (λ held. held ≡ bag.now.held) }
     ensures rises { IfOk result (λ held. IsCollection held) }
-    ensures few { IfOk result (λ held. length held ≤ 1000000) }
+    ensures within_limit { IfOk result (λ held. length held ≤ 1000000) }
 {
     HeldList::new(alloc, bag.flat(alloc)?)
 }
@@ -54,7 +54,7 @@ impl RangeTable for ChainTable {
 
     ghost are_borders = { λ t. one_border t.table.some };
 
-    ghost few = { λ t. t.few };
+    ghost within_limit = { λ t. t.within_limit };
 
     fn build(alloc: Global, bag: &Bag) -> Result<Self, OutOfMemory> {
         let held = flat_pairs(alloc, bag)?;

@@ -13,18 +13,18 @@ use s2ix_bag_pairs::{Entry, Pair};
 use s2ix_table_heavy::cut_into_chunks;
 use std::alloc::Global;
 
-// The chunks once a change is applied: those without an entry are shared, the others made anew, in chunks of at most `most` pairs, but at
+// The chunks once a change is applied: those without an entry are shared, the others made anew, in chunks of at most `max_part_len` pairs, but at
 // least one. A cell that has no chunk yet gets chunks of its own, at its place in the order. O(c + m + k) for c chunks, m entries and the k
 // pairs of the chunks made anew. `OutOfMemory` if a growth is refused, or a chunk is shared too often.
 pub(crate) fn chunks_after(
     alloc: Global,
     chunks: &[HeldList],
     entries: &[Entry],
-    most: usize,
+    max_part_len: usize,
 ) -> Result<Vec<HeldList>, OutOfMemory>
     requires chunks { AreChunks chunks.now }
     requires entries_rise { IsChangeList entries.now }
-    requires few { length (changed (all_of chunks.now) entries.now) ≤ 1000000 }
+    requires within_limit { length (changed (all_of chunks.now) entries.now) ≤ 1000000 }
     ensures chunks { IfOk result (λ made. AreChunks made.items) }
     ensures pairs { IfOk result (λ made. all_of made.items ≡ changed (all_of chunks.now) entries.now) }
 {
@@ -33,11 +33,11 @@ pub(crate) fn chunks_after(
     let mut rest = entries;
     while !ahead.is_empty() {
         let (own, behind) = rest.split_at(own_count(ahead, rest));
-        put_changed(alloc, &mut made, &ahead[0], own, most)?;
+        put_changed(alloc, &mut made, &ahead[0], own, max_part_len)?;
         rest = behind;
         (_, ahead) = ahead.split_at(1);
     }
-    put_cut(alloc, &mut made, &[], rest, most)?;
+    put_cut(alloc, &mut made, &[], rest, max_part_len)?;
     Ok(made)
 }
 
@@ -94,7 +94,7 @@ fn put_changed(
     chunks: &mut Vec<HeldList>,
     own: &HeldList,
     entries: &[Entry],
-    most: usize,
+    max_part_len: usize,
 ) -> Result<(), OutOfMemory>
     requires chunks { AreChunks chunks.old.items }
     requires some { 0 < length own.now }
@@ -102,7 +102,7 @@ fn put_changed(
     requires one_cell { IsOfOneCell own.now }
     requires entries_rise { IsChangeList entries.now }
     requires rises { IsCollection (all_of chunks.old.items ++ changed own.now entries.now) }
-    requires few { length (all_of chunks.old.items ++ changed own.now entries.now) ≤ 1000000 }
+    requires within_limit { length (all_of chunks.old.items ++ changed own.now entries.now) ≤ 1000000 }
     ensures chunks { OnOk result (AreChunks chunks.new.items) }
     ensures pairs { OnOk result (all_of chunks.new.items ≡ all_of chunks.old.items ++ changed own.now entries.now) }
 {
@@ -111,7 +111,7 @@ fn put_changed(
         chunks.push(shared)?;
         return Ok(());
     }
-    put_cut(alloc, chunks, own.as_slice(), entries, most)
+    put_cut(alloc, chunks, own.as_slice(), entries, max_part_len)
 }
 
 // Appends what entries make of held pairs, in new chunks of about the same length.
@@ -120,40 +120,45 @@ fn put_cut(
     chunks: &mut Vec<HeldList>,
     own: &[FlatHeld],
     entries: &[Entry],
-    most: usize,
+    max_part_len: usize,
 ) -> Result<(), OutOfMemory>
     requires chunks { AreChunks chunks.old.items }
     requires held_rise { IsCollection own.now }
     requires entries_rise { IsChangeList entries.now }
     requires rises { IsCollection (all_of chunks.old.items ++ changed own.now entries.now) }
-    requires few { length (all_of chunks.old.items ++ changed own.now entries.now) ≤ 1000000 }
+    requires within_limit { length (all_of chunks.old.items ++ changed own.now entries.now) ≤ 1000000 }
     ensures chunks { OnOk result (AreChunks chunks.new.items) }
     ensures pairs { OnOk result (all_of chunks.new.items ≡ all_of chunks.old.items ++ changed own.now entries.now) }
 {
     let held = merge(alloc, own, entries)?;
-    put_chunks(alloc, chunks, held.as_slice(), even_len(held.len(), most))
+    put_chunks(
+        alloc,
+        chunks,
+        held.as_slice(),
+        even_len(held.len(), max_part_len),
+    )
 }
 
-// Appends held pairs that come after all others, in chunks of at most `most` pairs, but at least one.
+// Appends held pairs that come after all others, in chunks of at most `max_part_len` pairs, but at least one.
 pub(crate) fn put_chunks(
     alloc: Global,
     chunks: &mut Vec<HeldList>,
     held: &[FlatHeld],
-    most: usize,
+    max_part_len: usize,
 ) -> Result<(), OutOfMemory>
     requires chunks { AreChunks chunks.old.items }
     requires rises { IsCollection (all_of chunks.old.items ++ held.now) }
-    requires few { length (all_of chunks.old.items ++ held.now) ≤ 1000000 }
+    requires within_limit { length (all_of chunks.old.items ++ held.now) ≤ 1000000 }
     ensures chunks { OnOk result (AreChunks chunks.new.items) }
     ensures pairs { OnOk result (all_of chunks.new.items ≡ all_of chunks.old.items ++ held.now) }
 {
-    let mut new = cut_into_chunks(alloc, held, most)?;
+    let mut new = cut_into_chunks(alloc, held, max_part_len)?;
     chunks.append(&mut new)?;
     Ok(())
 }
 
-// How long chunks of at most `most` pairs are if so many pairs lie evenly in as few of them as can be. No clause says so: if all chunks but
+// How long chunks of at most `max_part_len` pairs are if so many pairs lie evenly in as few of them as can be. No clause says so: if all chunks but
 // the last were full, the next pair would cut each of them again.
-fn even_len(len: usize, most: usize) -> usize {
-    len.div_ceil(len.div_ceil(most.max(1)).max(1))
+fn even_len(len: usize, max_part_len: usize) -> usize {
+    len.div_ceil(len.div_ceil(max_part_len.max(1)).max(1))
 }

@@ -49,7 +49,7 @@ impl Face<'_> {
         requires made { changed (together (held_in (spans_of self.parts.now)) (all_of self.heavy.now)) entries.now ≡ held.now }
         requires entries_rise { IsChangeList entries.now }
         requires rises { IsCollection held.now }
-        requires few { length held.now ≤ 1000000 }
+        requires within_limit { length held.now ≤ 1000000 }
         requires on_face { AreOnFace self.face held.now }
         ensures face { IfOk result (λ new. new.face ≡ self.entry.face) }
         ensures with { IfOk result (λ new. IsFaceWith self.entry.face held.now (spans_of self.entry.parts.now) self.entry.overs.now
@@ -57,19 +57,19 @@ impl Face<'_> {
         ensures before { IfOk result (λ new. 0 < new.parts.first → new.heavy ≡ self.entry.heavy.now) }
         ensures behind { IfOk result (λ new. new.parts.end < length (spans_of self.entry.parts.now) → new.heavy ≡ self.entry.heavy.now) }
     {
-        let most = held.most();
-        if !has_wide(self.parts, entries, most) {
+        let max_part_len = held.max_part_len();
+        if !has_wide(self.parts, entries, max_part_len) {
             if self.heavy.is_empty() {
                 let parts = self.parts_after(alloc, held, entries)?;
-                if !has_large(&parts.parts, most) {
+                if !has_large(&parts.parts, max_part_len) {
                     return self.with_light(alloc, parts);
                 }
             }
-            if let Some(new) = self.light_after(alloc, entries, most)? {
+            if let Some(new) = self.light_after(alloc, entries, max_part_len)? {
                 return Ok(new);
             }
         }
-        if let Some(new) = self.layers_after(alloc, entries, most)? {
+        if let Some(new) = self.layers_after(alloc, entries, max_part_len)? {
             return Ok(new);
         }
         self.made_anew(alloc, held)
@@ -87,7 +87,7 @@ impl Face<'_> {
         requires made { changed (held_in (spans_of self.parts.now)) entries.now ≡ held.now }
         requires entries_rise { IsChangeList entries.now }
         requires rises { IsCollection held.now }
-        requires few { length held.now ≤ 1000000 }
+        requires within_limit { length held.now ≤ 1000000 }
         requires on_face { AreOnFace self.face held.now }
         ensures order { IfOk result (λ new. new.first ≤ new.end) }
         ensures within { IfOk result (λ new. new.end ≤ length (spans_of self.entry.parts.now)) }
@@ -137,7 +137,7 @@ impl Face<'_> {
         requires six { self.face < 6 }
         requires overs { length self.overs.now ≡ length (spans_of self.parts.now) }
         requires rises { IsCollection held.now }
-        requires few { length held.now ≤ 1000000 }
+        requires within_limit { length held.now ≤ 1000000 }
         requires on_face { AreOnFace self.face held.now }
         ensures face { IfOk result (λ new. new.face ≡ self.entry.face) }
         ensures first { IfOk result (λ new. new.parts.first ≡ 0) }
@@ -173,15 +173,15 @@ impl Face<'_> {
     }
 }
 
-// Whether the cell of an entry is wide. O(log p + q) for each entry, p parts and the q parts of its cell that have at most `most` pairs.
-fn has_wide(parts: &[Arc<SpanTable>], entries: &[Entry], most: usize) -> bool {
+// Whether the cell of an entry is wide. O(log p + q) for each entry, p parts and the q parts of its cell that have at most `max_part_len` pairs.
+fn has_wide(parts: &[Arc<SpanTable>], entries: &[Entry], max_part_len: usize) -> bool {
     entries
         .iter()
-        .any(|entry| is_wide(parts, entry.pair.cell, most))
+        .any(|entry| is_wide(parts, entry.pair.cell, max_part_len))
 }
 
-// Whether parts that lie wholly within a cell have more than `most` pairs. No clause says so: it only saves work.
-fn is_wide(parts: &[Arc<SpanTable>], cell: CellId, most: usize) -> bool {
+// Whether parts that lie wholly within a cell have more than `max_part_len` pairs. No clause says so: it only saves work.
+fn is_wide(parts: &[Arc<SpanTable>], cell: CellId, max_part_len: usize) -> bool {
     let end = cell.span_end();
     let mut count = 0_usize;
     for next in last_by(parts, cell.span_start()) + 2..parts.len() {
@@ -189,7 +189,7 @@ fn is_wide(parts: &[Arc<SpanTable>], cell: CellId, most: usize) -> bool {
             return false;
         }
         count = count.saturating_add(parts[next - 1].pair_count());
-        if count > most {
+        if count > max_part_len {
             return true;
         }
     }
@@ -206,7 +206,7 @@ pub(crate) fn all_anew(
 ) -> Result<NewFace, OutOfMemory>
     requires six { face < 6 }
     requires rises { IsCollection held.now }
-    requires few { length held.now ≤ 1000000 }
+    requires within_limit { length held.now ≤ 1000000 }
     requires on_face { AreOnFace face held.now }
     ensures face { IfOk result (λ new. new.face ≡ face) }
     ensures first { IfOk result (λ new. new.parts.first ≡ 0) }

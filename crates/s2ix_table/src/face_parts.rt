@@ -41,7 +41,7 @@ pub(crate) fn face_parts(
 ) -> Result<FaceParts, OutOfMemory>
     requires six { face < 6 }
     requires rises { IsCollection held.now }
-    requires few { length held.now ≤ 1000000 }
+    requires within_limit { length held.now ≤ 1000000 }
     requires on_face { AreOnFace face held.now }
     ensures layered { IfOk result (λ f. IsFaceLayered face f.heavy (spans_of f.parts.items) f.overs.items) }
     ensures pairs { IfOk result (λ f. together (held_in (spans_of f.parts.items)) (all_of f.heavy) ≡ held.now) }
@@ -49,20 +49,21 @@ pub(crate) fn face_parts(
     let from = u64::from(face) * FACE_NUMBERS + 1;
     let to = from + FACE_NUMBERS;
     let parts = parts_over(alloc, held.parts(), from, to)?;
-    let most = held.most();
-    if has_large(parts.as_slice(), most) {
+    let max_part_len = held.max_part_len();
+    if has_large(parts.as_slice(), max_part_len) {
         let all = held.flat(alloc)?;
-        let layers = split(alloc, all.as_slice(), most)?;
-        if let Some(layered) = layered(alloc, layers, from, to, most)? {
+        let layers = split(alloc, all.as_slice(), max_part_len)?;
+        if let Some(layered) = layered(alloc, layers, from, to, max_part_len)? {
             return Ok(layered);
         }
     }
     plain(alloc, parts)
 }
 
-// Whether a part has more than twice `most` pairs. No clause says so: it only saves work. O(p) for p parts.
-pub(crate) fn has_large(parts: &[Arc<SpanTable>], most: usize) -> bool {
-    parts.iter().any(|part| part.pair_count() > most && part.pair_count() - most > most)
+// Whether a part has more than twice `max_part_len` pairs. No clause says so: it only saves work. O(p) for p parts.
+pub(crate) fn has_large(parts: &[Arc<SpanTable>], max_part_len: usize) -> bool {
+    parts.iter().any(|part| part.pair_count() > max_part_len
+        && part.pair_count() - max_part_len > max_part_len)
 }
 
 // All pairs are light, in these parts. O(p) for p parts. `OutOfMemory` if a growth is refused.
@@ -80,17 +81,17 @@ fn plain(alloc: Global, parts: Vec<Arc<SpanTable>>) -> Result<FaceParts, OutOfMe
     })
 }
 
-// The two layers of a split, over the leaves from one number up to another: the light pairs in parts of at most `most`, if they can be cut.
+// The two layers of a split, over the leaves from one number up to another: the light pairs in parts of at most `max_part_len`, if they can be cut.
 // `None` if the cell of a light pair goes over a leaf number at which the heavy pairs change.
 fn layered(
     alloc: Global,
     layers: Layers,
     from: u64,
     to: u64,
-    most: usize,
+    max_part_len: usize,
 ) -> Result<Option<FaceParts>, OutOfMemory>
     requires rises { IsCollection layers.light.items }
-    requires few { length layers.light.items ≤ 1000000 }
+    requires within_limit { length layers.light.items ≤ 1000000 }
     requires span { IsInSpan layers.light.items from to }
     requires leaves { to ≤ leaf_end }
     requires chunks { AreChunks layers.chunks.items }
@@ -99,7 +100,14 @@ fn layered(
         AreLightParts layers.chunks.items layers.light.items from (spans_of f.parts.items) f.overs.items to)) }
 {
     let heavy = HeavyPairs::over(alloc, layers.chunks)?;
-    over_spans(alloc, layers.light.as_slice(), heavy, from, to, most)
+    over_spans(
+        alloc,
+        layers.light.as_slice(),
+        heavy,
+        from,
+        to,
+        max_part_len,
+    )
 }
 
 // As `layered`, of light pairs and the heavy ones over them.
@@ -109,10 +117,10 @@ pub(crate) fn over_spans(
     heavy: HeavyPairs,
     from: u64,
     to: u64,
-    most: usize,
+    max_part_len: usize,
 ) -> Result<Option<FaceParts>, OutOfMemory>
     requires rises { IsCollection light.now }
-    requires few { length light.now ≤ 1000000 }
+    requires within_limit { length light.now ≤ 1000000 }
     requires span { IsInSpan light.now from to }
     requires leaves { to ≤ leaf_end }
     ensures heavy { IfOk result (λ made. IfSome made (λ f. f.heavy ≡ heavy)) }
@@ -130,7 +138,7 @@ pub(crate) fn over_spans(
         if least_begin(own, end) < start || greatest_end(own, start) > end {
             return Ok(None);
         }
-        let mut made = light_parts(alloc, own, start, end, most)?;
+        let mut made = light_parts(alloc, own, start, end, max_part_len)?;
         let mut over_all = Vec::from_elem(alloc, over, made.len())?;
         parts.append(&mut made)?;
         overs.append(&mut over_all)?;
@@ -161,21 +169,21 @@ fn count_below(held: &[FlatHeld], number: u64) -> usize
     held.partition_point(|h| is_below(h.pair(), number))
 }
 
-// The parts of light pairs over the leaves from one number up to another, of at most `most` pairs each, if they can be cut. O(n) for n
+// The parts of light pairs over the leaves from one number up to another, of at most `max_part_len` pairs each, if they can be cut. O(n) for n
 // pairs. `OutOfMemory` if a growth is refused.
 fn light_parts(
     alloc: Global,
     held: &[FlatHeld],
     from: u64,
     to: u64,
-    most: usize,
+    max_part_len: usize,
 ) -> Result<Vec<Arc<SpanTable>>, OutOfMemory>
     requires rises { IsCollection held.now }
-    requires few { length held.now ≤ 1000000 }
+    requires within_limit { length held.now ≤ 1000000 }
     requires span { IsInSpan held.now from to }
     ensures neighbours { IfOk result (λ parts. AreNeighbours from (spans_of parts.items) to) }
     ensures pairs { IfOk result (λ parts. held_in (spans_of parts.items) ≡ held.now) }
 {
-    let lists = HeldParts::new_in_parts_of(alloc, Vec::from_slice(alloc, held)?, most)?;
+    let lists = HeldParts::new_in_parts_of(alloc, Vec::from_slice(alloc, held)?, max_part_len)?;
     parts_over(alloc, lists.parts(), from, to)
 }

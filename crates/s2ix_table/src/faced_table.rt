@@ -100,7 +100,7 @@ impl RangeTable for FacedTable {
 
     ghost are_borders = { λ t. t.bordered };
 
-    ghost few = { λ t. t.joined.few };
+    ghost within_limit = { λ t. t.joined.within_limit };
 
     fn build(alloc: Global, bag: &Bag) -> Result<Self, OutOfMemory> {
         let mut reader = BagReader::new(bag);
@@ -294,7 +294,7 @@ impl FacedTable {
     ) -> Result<(), OutOfMemory>
         requires lists { lists.now ≡ map (changed_on change.now (changed (⟦<FacedTable as RangeTable>⟧.pairs self.old) change.now)) faces }
         requires rises { IsCollection (changed (⟦<FacedTable as RangeTable>⟧.pairs self.old) change.now) }
-        requires few { length (changed (⟦<FacedTable as RangeTable>⟧.pairs self.old) change.now) ≤ 1000000 }
+        requires within_limit { length (changed (⟦<FacedTable as RangeTable>⟧.pairs self.old) change.now) ≤ 1000000 }
         ensures pairs { OnOk result (⟦<FacedTable as RangeTable>⟧.pairs self.new
             ≡ changed (⟦<FacedTable as RangeTable>⟧.pairs self.old) change.now) }
         ensures stays { OnErr result (⟦<FacedTable as RangeTable>⟧.pairs self.new ≡ ⟦<FacedTable as RangeTable>⟧.pairs self.old) }
@@ -325,7 +325,7 @@ impl FacedTable {
         requires only { (other : ℕ) → other < 6 → other ≢ face → has_entry_on change.now other ≡ false }
         requires lists { lists.now ≡ map (changed_on change.now (changed (⟦<FacedTable as RangeTable>⟧.pairs self.old) change.now)) faces }
         requires rises { IsCollection (changed (⟦<FacedTable as RangeTable>⟧.pairs self.old) change.now) }
-        requires few { length (changed (⟦<FacedTable as RangeTable>⟧.pairs self.old) change.now) ≤ 1000000 }
+        requires within_limit { length (changed (⟦<FacedTable as RangeTable>⟧.pairs self.old) change.now) ≤ 1000000 }
         ensures pairs { OnOk result (⟦<FacedTable as RangeTable>⟧.pairs self.new
             ≡ changed (⟦<FacedTable as RangeTable>⟧.pairs self.old) change.now) }
         ensures stays { OnErr result (⟦<FacedTable as RangeTable>⟧.pairs self.new ≡ ⟦<FacedTable as RangeTable>⟧.pairs self.old) }
@@ -350,7 +350,7 @@ impl FacedTable {
     ) -> Result<AllFaces, OutOfMemory>
         requires lists { lists.now ≡ map (changed_on change.now (changed (⟦<FacedTable as RangeTable>⟧.pairs self.now) change.now)) faces }
         requires rises { IsCollection (changed (⟦<FacedTable as RangeTable>⟧.pairs self.now) change.now) }
-        requires few { length (changed (⟦<FacedTable as RangeTable>⟧.pairs self.now) change.now) ≤ 1000000 }
+        requires within_limit { length (changed (⟦<FacedTable as RangeTable>⟧.pairs self.now) change.now) ≤ 1000000 }
         ensures layout { IfOk result (λ all. IsLayout (spans_of all.parts.items) all.heavy all.overs.items) }
         ensures faces { IfOk result (λ all. BeginFaces (spans_of all.parts.items)) }
         ensures pairs { IfOk result (λ all. together (held_in (spans_of all.parts.items)) (heavy_in all.heavy)
@@ -375,7 +375,7 @@ impl FacedTable {
     ) -> Result<NewFace, OutOfMemory>
         requires six { face < 6 }
         requires lists { lists.now ≡ map (changed_on change.now (changed (⟦<FacedTable as RangeTable>⟧.pairs self.now) change.now)) faces }
-        requires few { length (changed (⟦<FacedTable as RangeTable>⟧.pairs self.now) change.now) ≤ 1000000 }
+        requires within_limit { length (changed (⟦<FacedTable as RangeTable>⟧.pairs self.now) change.now) ≤ 1000000 }
         ensures face { IfOk result (λ new. new.face ≡ face) }
         ensures with { IfOk result (λ new. IsFaceWith face (held_on face (changed (⟦<FacedTable as RangeTable>⟧.pairs self.now) change.now))
             (parts_of_face (spans_of self.now.parts.items) self.now.faces face) (of_face self.now.overs.items self.now.faces face)

@@ -25,21 +25,21 @@ use std::sync::Arc;
 impl Face<'_> {
     // What a change of heavy cells makes of the face: of cells that have heavy pairs, or no pairs yet. Its parts stay, shared, and it is
     // found anew which heavy pairs lie over each; where these change within a part, its pairs are laid in parts anew. Chunks are made anew,
-    // of at most `most` pairs, only where the change has entries. `None` if a light cell goes over a leaf number at which the heavy pairs
+    // of at most `max_part_len` pairs, only where the change has entries. `None` if a light cell goes over a leaf number at which the heavy pairs
     // change. O(p log c + c + m + k) for p parts, c chunks, m entries and the k pairs of the parts and chunks made anew. `OutOfMemory` if a
     // growth is refused, or a part or a chunk is shared too often.
     pub(crate) fn heavy_after(
         self,
         alloc: Global,
         entries: &[Entry],
-        most: usize,
+        max_part_len: usize,
     ) -> Result<Option<NewFace>, OutOfMemory>
         requires six { self.face < 6 }
         requires layered { IsFaceLayered self.face self.heavy.now (spans_of self.parts.now) self.overs.now }
         requires entries_rise { IsChangeList entries.now }
         requires apart { HaveOtherCells entries.now (held_in (spans_of self.parts.now)) }
         requires on_face { AreOnFace self.face (changed (all_of self.heavy.now) entries.now) }
-        requires few { length (changed (all_of self.heavy.now) entries.now) ≤ 1000000 }
+        requires within_limit { length (changed (all_of self.heavy.now) entries.now) ≤ 1000000 }
         ensures face { IfOk result (λ made. IfSome made (λ new. new.face ≡ self.entry.face)) }
         ensures first { IfOk result (λ made. IfSome made (λ new. new.parts.first ≡ 0)) }
         ensures end { IfOk result (λ made. IfSome made (λ new. new.parts.end ≡ length (spans_of self.entry.parts.now))) }
@@ -48,10 +48,17 @@ impl Face<'_> {
             (spans_of self.entry.parts.now) self.entry.overs.now
             new.parts.first new.parts.end (spans_of new.parts.parts.items) new.overs.items new.heavy)) }
     {
-        let chunks = chunks_after(alloc, self.heavy.chunks(), entries, most)?;
+        let chunks = chunks_after(alloc, self.heavy.chunks(), entries, max_part_len)?;
         let heavy = HeavyPairs::over(alloc, chunks)?;
         let from = u64::from(self.face) * FACE_NUMBERS + 1;
-        let Some(under) = parts_under(alloc, self.parts, heavy, from, from + FACE_NUMBERS, most)?
+        let Some(under) = parts_under(
+            alloc,
+            self.parts,
+            heavy,
+            from,
+            from + FACE_NUMBERS,
+            max_part_len,
+        )?
         else {
             return Ok(None);
         };
@@ -74,7 +81,7 @@ impl Face<'_> {
 }
 
 // Parts over the leaves from one number up to another, under heavy pairs: each is shared if these are the same at all its leaves, else its
-// pairs are laid anew, in parts of at most `most` pairs if they can be cut. `None` if a light cell goes over a leaf number at which the
+// pairs are laid anew, in parts of at most `max_part_len` pairs if they can be cut. `None` if a light cell goes over a leaf number at which the
 // heavy pairs change. O(p log c + k) for p parts, c chunks and the k pairs of the parts made anew. `OutOfMemory` if a growth is refused, or
 // a part is shared too often.
 fn parts_under(
@@ -83,7 +90,7 @@ fn parts_under(
     heavy: HeavyPairs,
     from: u64,
     to: u64,
-    most: usize,
+    max_part_len: usize,
 ) -> Result<Option<FaceParts>, OutOfMemory>
     requires neighbours { AreNeighbours from (spans_of parts.now) to }
     requires leaves { to ≤ leaf_end }
@@ -100,7 +107,8 @@ fn parts_under(
         known = over_from(&heavy, known, begin, end);
         if known.1 < end {
             let shared = heavy.clone()?;
-            let Some(laid) = over_spans(alloc, held_of(parts, k), shared, begin, end, most)? else {
+            let Some(laid) = over_spans(alloc, held_of(parts, k), shared, begin, end, max_part_len)?
+            else {
                 return Ok(None);
             };
             put_laid(&mut made, &mut overs, laid)?;

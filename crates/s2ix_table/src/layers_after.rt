@@ -32,13 +32,13 @@ impl Face<'_> {
         self,
         alloc: Global,
         entries: &[Entry],
-        most: usize,
+        max_part_len: usize,
     ) -> Result<Option<NewFace>, OutOfMemory>
         requires six { self.face < 6 }
         requires layered { IsFaceLayered self.face self.heavy.now (spans_of self.parts.now) self.overs.now }
         requires entries_rise { IsChangeList entries.now }
         requires on_face { AreOnFace self.face (changed (together (held_in (spans_of self.parts.now)) (all_of self.heavy.now)) entries.now) }
-        requires few { length (changed (together (held_in (spans_of self.parts.now)) (all_of self.heavy.now)) entries.now) ≤ 1000000 }
+        requires within_limit { length (changed (together (held_in (spans_of self.parts.now)) (all_of self.heavy.now)) entries.now) ≤ 1000000 }
         ensures face { IfOk result (λ made. IfSome made (λ new. new.face ≡ self.entry.face)) }
         ensures first { IfOk result (λ made. IfSome made (λ new. new.parts.first ≡ 0)) }
         ensures end { IfOk result (λ made. IfSome made (λ new. new.parts.end ≡ length (spans_of self.entry.parts.now))) }
@@ -53,10 +53,11 @@ impl Face<'_> {
         if own.heavy.is_empty() {
             return Ok(None);
         }
-        let Some(under) = self.heavy_after(alloc, own.heavy.as_slice(), most)? else {
+        let Some(under) = self.heavy_after(alloc, own.heavy.as_slice(), max_part_len)? else {
             return Ok(None);
         };
-        let Some(new) = under.and_light(alloc, self.face, own.light.as_slice(), most)? else {
+        let Some(new) = under.and_light(alloc, self.face, own.light.as_slice(), max_part_len)?
+        else {
             return Ok(None);
         };
         Ok(Some(new))
@@ -129,12 +130,12 @@ impl NewFace {
         alloc: Global,
         face: u8,
         entries: &[Entry],
-        most: usize,
+        max_part_len: usize,
     ) -> Result<Option<NewFace>, OutOfMemory>
         requires six { face < 6 }
         requires layered { IsFaceLayered face self.heavy (spans_of self.parts.parts.items) self.overs.items }
         requires entries_rise { IsChangeList entries.now }
-        requires few { length (changed (together (held_in (spans_of self.parts.parts.items)) (all_of self.heavy)) entries.now) ≤ 1000000 }
+        requires within_limit { length (changed (together (held_in (spans_of self.parts.parts.items)) (all_of self.heavy)) entries.now) ≤ 1000000 }
         ensures face { IfOk result (λ made. IfSome made (λ new. new.face ≡ self.face)) }
         ensures first { IfOk result (λ made. IfSome made (λ new. new.parts.first ≡ self.parts.first)) }
         ensures end { IfOk result (λ made. IfSome made (λ new. new.parts.end ≡ self.parts.end)) }
@@ -149,7 +150,7 @@ impl NewFace {
             overs: self.overs.as_slice(),
             heavy: &self.heavy,
         };
-        let Some(light) = old.light_after(alloc, entries, most)? else {
+        let Some(light) = old.light_after(alloc, entries, max_part_len)? else {
             return Ok(None);
         };
         let new = self.with_parts(light)?;

@@ -40,12 +40,12 @@ impl Face<'_> {
         self,
         alloc: Global,
         entries: &[Entry],
-        most: usize,
+        max_part_len: usize,
     ) -> Result<Option<NewFace>, OutOfMemory>
         requires six { self.face < 6 }
         requires layered { IsFaceLayered self.face self.heavy.now (spans_of self.parts.now) self.overs.now }
         requires entries_rise { IsChangeList entries.now }
-        requires few { length (changed (together (held_in (spans_of self.parts.now)) (all_of self.heavy.now)) entries.now) ≤ 1000000 }
+        requires within_limit { length (changed (together (held_in (spans_of self.parts.now)) (all_of self.heavy.now)) entries.now) ≤ 1000000 }
         ensures face { IfOk result (λ made. IfSome made (λ new. new.face ≡ self.entry.face)) }
         ensures heavy { IfOk result (λ made. IfSome made (λ new. new.heavy ≡ self.entry.heavy.now)) }
         ensures with { IfOk result (λ made. IfSome made (λ new. IsFaceWith self.entry.face
@@ -61,8 +61,8 @@ impl Face<'_> {
             return Ok(None);
         }
         let last = u64::from(self.face) * FACE_NUMBERS + 1 + FACE_NUMBERS;
-        match touched_by(self.parts, entries, last, most) {
-            Some(touched) => self.touched_after(alloc, entries, touched, most),
+        match touched_by(self.parts, entries, last, max_part_len) {
+            Some(touched) => self.touched_after(alloc, entries, touched, max_part_len),
             None => Ok(None),
         }
     }
@@ -73,12 +73,12 @@ impl Face<'_> {
         alloc: Global,
         entries: &[Entry],
         touched: Touched,
-        most: usize,
+        max_part_len: usize,
     ) -> Result<Option<NewFace>, OutOfMemory>
         requires six { self.face < 6 }
         requires layered { IsFaceLayered self.face self.heavy.now (spans_of self.parts.now) self.overs.now }
         requires entries_rise { IsChangeList entries.now }
-        requires few { length (changed (together (held_in (spans_of self.parts.now)) (all_of self.heavy.now)) entries.now) ≤ 1000000 }
+        requires within_limit { length (changed (together (held_in (spans_of self.parts.now)) (all_of self.heavy.now)) entries.now) ≤ 1000000 }
         requires light { HaveLightCells entries.now (all_of self.heavy.now) }
         requires touched { AreTouched (spans_of self.parts.now) entries.now (face_begin (self.face + 1))
             touched.first touched.end touched.from touched.to }
@@ -100,12 +100,12 @@ impl Face<'_> {
             shared,
             touched.from,
             touched.to,
-            most,
+            max_part_len,
         )?
         else {
             return Ok(None);
         };
-        if has_large(made.parts.as_slice(), most) {
+        if has_large(made.parts.as_slice(), max_part_len) {
             return Ok(None);
         }
         let FaceParts {
@@ -144,7 +144,7 @@ fn touched_by(
     parts: &[Arc<SpanTable>],
     entries: &[Entry],
     last: u64,
-    most: usize,
+    max_part_len: usize,
 ) -> Option<Touched>
     ensures { IfSome result (λ r. AreTouched (spans_of parts.now) entries.now last r.first r.end r.from r.to) }
 {
@@ -154,7 +154,7 @@ fn touched_by(
     if first >= reached || reached > parts.len() {
         return None;
     }
-    let end = with_small(parts, reached, most);
+    let end = with_small(parts, reached, max_part_len);
     let from = parts[first].from();
     let to = if end < parts.len() {
         parts[end].from()
@@ -172,15 +172,15 @@ fn touched_by(
     })
 }
 
-// The place after a part, or after the next one too if one of these two is small: it has less than a quarter of `most` pairs.
-fn with_small(parts: &[Arc<SpanTable>], end: usize, most: usize) -> usize
+// The place after a part, or after the next one too if one of these two is small: it has less than a quarter of `max_part_len` pairs.
+fn with_small(parts: &[Arc<SpanTable>], end: usize, max_part_len: usize) -> usize
     requires some { 0 < end }
     requires within { end ≤ length parts.now }
     ensures from { end ≤ result }
     ensures within { result ≤ length parts.now }
 {
-    let few = most / 4;
-    if end < parts.len() && parts[end - 1].pair_count().min(parts[end].pair_count()) < few {
+    let small = max_part_len / 4;
+    if end < parts.len() && parts[end - 1].pair_count().min(parts[end].pair_count()) < small {
         end + 1
     } else {
         end

@@ -25,12 +25,12 @@ impl Offset {
     // The offset of `next`, if this is the offset of `table`, the one before it. `same_over` tells whether both lie under the same heavy
     // pairs. O(1).
     pub(crate) fn after(self, table: &SpanTable, next: &SpanTable, same_over: bool) -> Offset
-        requires few { self.place ≤ 100000000 }
+        requires within_limit { self.place ≤ 100000000 }
         requires neighbours { table.now.to ≡ next.now.from }
         ensures offset { (over next_over : Collection) → AreTold table.now.held next.now.held over next_over same_over
             → result ≡ offset_after self (with_over over table.now.ranges) (with_over next_over next.now.ranges) }
         ensures rises { self.place ≤ result.place }
-        ensures few { result.place ≤ self.place + 2000001 }
+        ensures within_limit { result.place ≤ self.place + 2000001 }
         ensures table { IsSpanTable table.now }
         ensures next { IsSpanTable next.now }
     {

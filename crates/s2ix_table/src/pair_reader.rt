@@ -8,7 +8,7 @@ use s2ix_bag_pairs::Held;
 use std::alloc::Global;
 
 /// Something that reads the held pairs of a bag, in rising order, and counts each that it reads. No call gives a pair that it doesn't
-/// count; a list that is handed on whole counts with all of its pairs, though nobody may look at them.
+/// count; a list that is handed on whole counts with all of its pairs, though perhaps nobody looks at them.
 pub trait PairReader {
     // the held pairs that it reads
     ghost shown: { Self → Collection };

@@ -24,7 +24,7 @@ pub fn parts_over(
     to: u64,
 ) -> Result<Vec<Arc<SpanTable>>, OutOfMemory>
     requires rises { IsCollection (all_of held.now) }
-    requires few { length (all_of held.now) ≤ 1000000 }
+    requires within_limit { length (all_of held.now) ≤ 1000000 }
     requires span { IsInSpan (all_of held.now) from to }
     ensures neighbours { IfOk result (λ parts. AreNeighbours from (spans_of parts.items) to) }
     ensures pairs { IfOk result (λ parts. held_in (spans_of parts.items) ≡ all_of held.now) }
@@ -122,7 +122,7 @@ fn part_over(
     to: u64,
 ) -> Result<Arc<SpanTable>, OutOfMemory>
     requires rises { IsCollection (all_of held.now) }
-    requires few { length (all_of held.now) ≤ 1000000 }
+    requires within_limit { length (all_of held.now) ≤ 1000000 }
     requires span { IsInSpan (all_of held.now) from to }
     ensures pairs { IfOk result (λ part. part.value.held ≡ all_of held.now) }
     ensures begins { IfOk result (λ part. part.value.from ≡ from) }

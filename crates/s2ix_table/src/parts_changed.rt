@@ -34,7 +34,7 @@ pub fn parts_after(
     requires made { changed (held_in (spans_of before.now)) entries.now ≡ all_of held.now }
     requires entries_rise { IsChangeList entries.now }
     requires rises { IsCollection (all_of held.now) }
-    requires few { length (all_of held.now) ≤ 1000000 }
+    requires within_limit { length (all_of held.now) ≤ 1000000 }
     requires span { IsInSpan (all_of held.now) from to }
     ensures order { IfOk result (λ new. new.first ≤ new.end) }
     ensures within { IfOk result (λ new. new.end ≤ length before.now) }

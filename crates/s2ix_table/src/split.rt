@@ -19,12 +19,16 @@ pub(crate) struct Layers {
     pub(crate) chunks: Vec<HeldList>,
 }
 
-// Rising pairs in two layers. A cell is heavy if more than `most` pairs lie within it, its own among them. The pairs of a heavy cell go
-// into chunks of at most `most` pairs, but at least one. O(n) for n pairs, and O(log n) more for each cell within which many pairs lie.
+// Rising pairs in two layers. A cell is heavy if more than `max_part_len` pairs lie within it, its own among them. The pairs of a heavy cell go
+// into chunks of at most `max_part_len` pairs, but at least one. O(n) for n pairs, and O(log n) more for each cell within which many pairs lie.
 // `OutOfMemory` if a growth is refused.
-pub(crate) fn split(alloc: Global, held: &[FlatHeld], most: usize) -> Result<Layers, OutOfMemory>
+pub(crate) fn split(
+    alloc: Global,
+    held: &[FlatHeld],
+    max_part_len: usize,
+) -> Result<Layers, OutOfMemory>
     requires rises { IsCollection held.now }
-    requires few { length held.now ≤ 1000000 }
+    requires within_limit { length held.now ≤ 1000000 }
     ensures pairs { IfOk result (λ layers. together layers.light.items (all_of layers.chunks.items) ≡ held.now) }
     ensures apart { IfOk result (λ layers. ShareNoCell layers.light.items (all_of layers.chunks.items)) }
     ensures chunks { IfOk result (λ layers. AreChunks layers.chunks.items) }
@@ -40,21 +44,21 @@ pub(crate) fn split(alloc: Global, held: &[FlatHeld], most: usize) -> Result<Lay
     while !rest.is_empty() {
         let (run, later) = rest.split_at(run_len(rest));
         let start = held.len() - rest.len();
-        let heavy = is_heavy(held, start, start + run.len(), most);
-        layers.put(alloc, run, heavy, most)?;
+        let heavy = is_heavy(held, start, start + run.len(), max_part_len);
+        layers.put(alloc, run, heavy, max_part_len)?;
         rest = later;
     }
     Ok(layers)
 }
 
 impl Layers {
-    // Appends the pairs of the next cell to one of both layers: to the heavy ones in chunks of at most `most` pairs, but at least one.
+    // Appends the pairs of the next cell to one of both layers: to the heavy ones in chunks of at most `max_part_len` pairs, but at least one.
     fn put(
         &mut self,
         alloc: Global,
         run: &[FlatHeld],
         is_heavy: bool,
-        most: usize,
+        max_part_len: usize,
     ) -> Result<(), OutOfMemory>
         requires split { AreSplit self.old.light.items self.old.chunks.items }
         requires next { IsRunAfter (together self.old.light.items (all_of self.old.chunks.items)) run.now }
@@ -63,7 +67,7 @@ impl Layers {
             ≡ together self.old.light.items (all_of self.old.chunks.items) ++ run.now) }
     {
         if is_heavy {
-            put_chunks(alloc, &mut self.chunks, run, most)?;
+            put_chunks(alloc, &mut self.chunks, run, max_part_len)?;
         } else {
             self.light.extend_from_slice(run)?;
         }
@@ -87,19 +91,19 @@ fn run_len(pairs: &[FlatHeld]) -> usize
     len
 }
 
-// Whether more than `most` pairs lie within the cell of a run, the run's own among them. In rising order they all follow one another. O(1)
+// Whether more than `max_part_len` pairs lie within the cell of a run, the run's own among them. In rising order they all follow one another. O(1)
 // if only few of them lie beside the run, else O(log n).
-fn is_heavy(held: &[FlatHeld], start: usize, end: usize, most: usize) -> bool
+fn is_heavy(held: &[FlatHeld], start: usize, end: usize, max_part_len: usize) -> bool
     requires some { start < end }
     requires within { end ≤ length held.now }
 {
     let len = end - start;
-    if len > most {
+    if len > max_part_len {
         return true;
     }
     let cell = held[start].cell();
-    // if they are more than `most`, one that is so far away is among them, before the run or behind it
-    let far = (most - len) / 2 + 1;
+    // if they are more than `max_part_len`, one that is so far away is among them, before the run or behind it
+    let far = (max_part_len - len) / 2 + 1;
     let is_far_before = far <= start && cell.contains(held[start - far].cell());
     let is_far_behind = far <= held.len() - end && cell.contains(held[end - 1 + far].cell());
     if !is_far_before && !is_far_behind {
@@ -107,5 +111,5 @@ fn is_heavy(held: &[FlatHeld], start: usize, end: usize, most: usize) -> bool
     }
     let before = start - held[..start].partition_point(|h| !cell.contains(h.cell()));
     let behind = held[end..].partition_point(|h| cell.contains(h.cell()));
-    before + len + behind > most
+    before + len + behind > max_part_len
 }

@@ -40,7 +40,7 @@ impl<T: RangeTable + Drop> RangeTable for Counted<T> {
 
     ghost are_borders = { λ t. T.are_borders t.table };
 
-    ghost few = { λ t. T.few t.table };
+    ghost within_limit = { λ t. T.within_limit t.table };
 
     fn build(alloc: Global, bag: &Bag) -> Result<Self, OutOfMemory> {
         let table = T::build(alloc, bag)?;

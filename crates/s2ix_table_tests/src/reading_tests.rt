@@ -20,7 +20,7 @@ struct ByPairs<'a> {
     bag: &'a Bag,
     reads: u64,
     ghost rises: { IsCollection bag.now.held } by { IsCollection-prop 0 bag.now.held },
-    ghost few: { length bag.now.held ≤ 1000000 },
+    ghost within_limit: { length bag.now.held ≤ 1000000 },
 }
 
 impl PairReader for ByPairs<'_> {
@@ -28,7 +28,7 @@ impl PairReader for ByPairs<'_> {
 
     ghost spent = { λ reader. reader.reads };
 
-    ghost is_read = { λ reader. record { is_collection = reader.rises; few = reader.few } };
+    ghost is_read = { λ reader. record { is_collection = reader.rises; within_limit = reader.within_limit } };
 
     fn len(&self) -> usize {
         self.bag.len()

@@ -12,35 +12,35 @@ put_changed-requires-clause-held_rise c =
     (next_chunk (changed (all_of c.args.chunks.now) c.args.entries.now) c.loop-ahead.made.items c.loop-ahead.ahead.now
     c.index-ahead-0.result c.loop-ahead.rest.now c.split_at.result.0.now c.split_at.result.1.now c.own_count.result
     c.loop-ahead.invariant (changed_keeps (all_of c.args.chunks.now) c.args.entries.now c.requires.chunks.rises c.requires.entries_rise)
-    c.requires.few (search rules) c.index-ahead-0.is c.own_count.ensures.cut c.split_at.ensures.front c.split_at.ensures.back).held_rise
+    c.requires.within_limit (search rules) c.index-ahead-0.is c.own_count.ensures.cut c.split_at.ensures.front c.split_at.ensures.back).held_rise
 
 pub put_changed-requires-clause-entries_rise : goal.put_changed-requires-clause-entries_rise
 put_changed-requires-clause-entries_rise c =
     (next_chunk (changed (all_of c.args.chunks.now) c.args.entries.now) c.loop-ahead.made.items c.loop-ahead.ahead.now
     c.index-ahead-0.result c.loop-ahead.rest.now c.split_at.result.0.now c.split_at.result.1.now c.own_count.result
     c.loop-ahead.invariant (changed_keeps (all_of c.args.chunks.now) c.args.entries.now c.requires.chunks.rises c.requires.entries_rise)
-    c.requires.few (search rules) c.index-ahead-0.is c.own_count.ensures.cut c.split_at.ensures.front c.split_at.ensures.back).own_rise
+    c.requires.within_limit (search rules) c.index-ahead-0.is c.own_count.ensures.cut c.split_at.ensures.front c.split_at.ensures.back).own_rise
 
 pub put_changed-requires-clause-rises : goal.put_changed-requires-clause-rises
 put_changed-requires-clause-rises c =
     (next_chunk (changed (all_of c.args.chunks.now) c.args.entries.now) c.loop-ahead.made.items c.loop-ahead.ahead.now
     c.index-ahead-0.result c.loop-ahead.rest.now c.split_at.result.0.now c.split_at.result.1.now c.own_count.result
     c.loop-ahead.invariant (changed_keeps (all_of c.args.chunks.now) c.args.entries.now c.requires.chunks.rises c.requires.entries_rise)
-    c.requires.few (search rules) c.index-ahead-0.is c.own_count.ensures.cut c.split_at.ensures.front c.split_at.ensures.back).rises
+    c.requires.within_limit (search rules) c.index-ahead-0.is c.own_count.ensures.cut c.split_at.ensures.front c.split_at.ensures.back).rises
 
-pub put_changed-requires-clause-few : goal.put_changed-requires-clause-few
-put_changed-requires-clause-few c =
+pub put_changed-requires-clause-within_limit : goal.put_changed-requires-clause-within_limit
+put_changed-requires-clause-within_limit c =
     (next_chunk (changed (all_of c.args.chunks.now) c.args.entries.now) c.loop-ahead.made.items c.loop-ahead.ahead.now
     c.index-ahead-0.result c.loop-ahead.rest.now c.split_at.result.0.now c.split_at.result.1.now c.own_count.result
     c.loop-ahead.invariant (changed_keeps (all_of c.args.chunks.now) c.args.entries.now c.requires.chunks.rises c.requires.entries_rise)
-    c.requires.few (search rules) c.index-ahead-0.is c.own_count.ensures.cut c.split_at.ensures.front c.split_at.ensures.back).few
+    c.requires.within_limit (search rules) c.index-ahead-0.is c.own_count.ensures.cut c.split_at.ensures.front c.split_at.ensures.back).within_limit
 
 pub put_changed-requires-clause-one_cell : goal.put_changed-requires-clause-one_cell
 put_changed-requires-clause-one_cell c =
     (next_chunk (changed (all_of c.args.chunks.now) c.args.entries.now) c.loop-ahead.made.items c.loop-ahead.ahead.now
     c.index-ahead-0.result c.loop-ahead.rest.now c.split_at.result.0.now c.split_at.result.1.now c.own_count.result
     c.loop-ahead.invariant (changed_keeps (all_of c.args.chunks.now) c.args.entries.now c.requires.chunks.rises c.requires.entries_rise)
-    c.requires.few (search rules) c.index-ahead-0.is c.own_count.ensures.cut c.split_at.ensures.front c.split_at.ensures.back).one_cell
+    c.requires.within_limit (search rules) c.index-ahead-0.is c.own_count.ensures.cut c.split_at.ensures.front c.split_at.ensures.back).one_cell
 
 pub loop-ahead-preserved : goal.loop-ahead-preserved
 loop-ahead-preserved c =
@@ -50,7 +50,7 @@ loop-ahead-preserved c =
     (next_chunk (changed (all_of c.args.chunks.now) c.args.entries.now) c.loop-ahead.made.items c.loop-ahead.ahead.now
     c.index-ahead-0.result c.loop-ahead.rest.now c.split_at.result.0.now c.split_at.result.1.now c.own_count.result
     c.loop-ahead.invariant (changed_keeps (all_of c.args.chunks.now) c.args.entries.now c.requires.chunks.rises c.requires.entries_rise)
-    c.requires.few (search rules) c.index-ahead-0.is c.own_count.ensures.cut c.split_at.ensures.front c.split_at.ensures.back)
+    c.requires.within_limit (search rules) c.index-ahead-0.is c.own_count.ensures.cut c.split_at.ensures.front c.split_at.ensures.back)
     c.in_ok-put_changed.ensures.chunks c.in_ok-put_changed.ensures.pairs c.split_at-in-loop-ahead.ensures.back
 
 pub put_cut-requires-clause-rises : goal.put_cut-requires-clause-rises
@@ -59,11 +59,11 @@ put_cut-requires-clause-rises c =
     c.loop-ahead.rest.now c.loop-ahead.invariant (search rules)))
     (changed_keeps (all_of c.args.chunks.now) c.args.entries.now c.requires.chunks.rises c.requires.entries_rise)
 
-pub put_cut-requires-clause-few : goal.put_cut-requires-clause-few
-put_cut-requires-clause-few c =
+pub put_cut-requires-clause-within_limit : goal.put_cut-requires-clause-within_limit
+put_cut-requires-clause-within_limit c =
     subst (λ (hs : Collection). length hs ≤ 1000000) (sym (rest_made (changed (all_of c.args.chunks.now) c.args.entries.now) c.loop-ahead.made.items
     c.loop-ahead.ahead.now c.loop-ahead.rest.now c.loop-ahead.invariant (search rules)))
-    c.requires.few
+    c.requires.within_limit
 
 pub returns-clause-pairs : goal.returns-clause-pairs
 returns-clause-pairs c =

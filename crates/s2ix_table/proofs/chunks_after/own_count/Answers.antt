@@ -54,6 +54,6 @@ returns-clause-cut c =
           (ap (λ (hs : Collection). slice_get hs 0) (sym there) ∙ w.at-then-chunks-gt1.ensures) in
           cells_differ w.at-then-chunks-gt1.result.pair.cell first.pair.cell w.if-eq.ensures
           (ap (λ (h : Held). h.pair.cell) (sym other ∙ head) ∙ same)
-      | else-chunks-gt1 w ↦ λ next lt next_is same. absurd (let few = w.if-chunks-gt1.false in omega arith)
+      | else-chunks-gt1 w ↦ λ next lt next_is same. absurd (let within_limit = w.if-chunks-gt1.false in omega arith)
     ])
     (omega (arith, raw)) c.count_before-2.ensures.below c.count_before-2.ensures.rest

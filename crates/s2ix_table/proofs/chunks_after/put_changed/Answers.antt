@@ -13,6 +13,6 @@ returns-then-is_empty-clause-chunks c =
     let same = sym (no_change own c.args.entries.now none) in
     let shared : c.in_ok-shared.shared ≡ own = search rules in
     let is = c.requires in
-    (chunk_pushed c.args.chunks.now.items c.push.new.self.items (changed own c.args.entries.now) c.in_ok-shared.shared is.chunks is.rises is.few
+    (chunk_pushed c.args.chunks.now.items c.push.new.self.items (changed own c.args.entries.now) c.in_ok-shared.shared is.chunks is.rises is.within_limit
     (subst (λ (hs : Collection). 0 < length hs) same is.some) (subst (λ (hs : Collection). IsOfOneCell hs) same is.one_cell) (shared ∙ same)
     c.in_ok-push.ensures.items).0

@@ -9,7 +9,7 @@ put_chunks-requires-clause-rises c =
     subst (λ (hs : Collection). IsCollection (all_of c.args.chunks.now.items ++ hs)) (sym (c.as_slice.ensures.value ∙ c.in_ok-held.ensures))
     c.requires.rises
 
-pub put_chunks-requires-clause-few : goal.put_chunks-requires-clause-few
-put_chunks-requires-clause-few c =
+pub put_chunks-requires-clause-within_limit : goal.put_chunks-requires-clause-within_limit
+put_chunks-requires-clause-within_limit c =
     subst (λ (hs : Collection). length (all_of c.args.chunks.now.items ++ hs) ≤ 1000000)
-    (sym (c.as_slice.ensures.value ∙ c.in_ok-held.ensures)) c.requires.few
+    (sym (c.as_slice.ensures.value ∙ c.in_ok-held.ensures)) c.requires.within_limit

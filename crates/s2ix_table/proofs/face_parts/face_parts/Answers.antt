@@ -28,15 +28,15 @@ parts_over-requires-clause-span c =
     in_read_span c.args.face c.from.result (all_of c.parts.result.now) c.from.ensures
     (subst (AreOnFace c.args.face) (sym c.parts.ensures.list) c.requires.on_face)
 
-pub layered-requires-clause-few : goal.layered-requires-clause-few
-layered-requires-clause-few c =
+pub layered-requires-clause-within_limit : goal.layered-requires-clause-within_limit
+layered-requires-clause-within_limit c =
     let light = c.in_ok-layers.layers.light.items in
     let heavy = all_of c.in_ok-layers.layers.chunks.items in
     let is = c.in_ok-layers.ensures in
     let all : c.as_slice-then-has_large.result.now ≡ c.args.held.now = c.as_slice-then-has_large.ensures.value ∙ c.in_ok-all.ensures in
     let both = length_together light heavy is.rises is.chunks.rises (cells_part_pairs light heavy is.apart) in
     let whole = ap (λ (hs : Collection). length hs) (is.pairs ∙ all) in
-    let few = c.requires.few in
+    let within_limit = c.requires.within_limit in
     omega arith
 
 pub layered-requires-clause-span : goal.layered-requires-clause-span

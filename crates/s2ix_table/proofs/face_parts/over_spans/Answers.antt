@@ -14,7 +14,7 @@ pub loop-start-init : goal.loop-start-init
 loop-start-init c =
     let light = c.args.light.now in
     layering_same c.args.heavy light c.args.from c.args.to [] (spans_of c.new-parts.result.items) [] c.new-overs.result.items
-    light light c.args.from (layering_start c.args.heavy light c.args.from c.args.to c.requires.rises c.requires.few c.requires.span)
+    light light c.args.from (layering_start c.args.heavy light c.args.from c.args.to c.requires.rises c.requires.within_limit c.requires.span)
     (ap spans_of c.new-parts.ensures.items) c.new-overs.ensures.items refl
 
 pub first_over-over-requires-clause-odd : goal.first_over-over-requires-clause-odd
@@ -29,9 +29,9 @@ light_parts-requires-clause-rises c =
     (own_rises c.args.heavy c.args.light.now c.args.from c.args.to (spans_of c.loop-start.parts.items) c.loop-start.overs.items
     c.loop-start.rest.now c.loop-start.start c.count_below.result c.loop-start.invariant)
 
-pub light_parts-requires-clause-few : goal.light_parts-requires-clause-few
-light_parts-requires-clause-few c =
-    let few = own_few c.count_below.result c.loop-start.rest.now c.loop-start.invariant.few in
+pub light_parts-requires-clause-within_limit : goal.light_parts-requires-clause-within_limit
+light_parts-requires-clause-within_limit c =
+    let within_limit = own_few c.count_below.result c.loop-start.rest.now c.loop-start.invariant.within_limit in
     let same = ap (λ (hs : Collection). length hs) c.split_at.ensures.front in
     omega arith
 

@@ -61,12 +61,12 @@ over_spans-requires-clause-rises c =
     let lt : c.loop-k.k < length ts = omega arith in
     subst (λ (hs : Collection). IsCollection hs) (sym c.held_of.ensures) (span_known c.args.from ts c.args.to c.loop-k.k no_table c.requires.neighbours lt).rises
 
-pub over_spans-requires-clause-few : goal.over_spans-requires-clause-few
-over_spans-requires-clause-few c =
+pub over_spans-requires-clause-within_limit : goal.over_spans-requires-clause-within_limit
+over_spans-requires-clause-within_limit c =
     let ts = spans_of c.args.parts.now in
     let many = many_shared c.args.parts.now in
     let lt : c.loop-k.k < length ts = omega arith in
-    subst (λ (hs : Collection). length hs ≤ 1000000) (sym c.held_of.ensures) (span_known c.args.from ts c.args.to c.loop-k.k no_table c.requires.neighbours lt).few
+    subst (λ (hs : Collection). length hs ≤ 1000000) (sym c.held_of.ensures) (span_known c.args.from ts c.args.to c.loop-k.k no_table c.requires.neighbours lt).within_limit
 
 pub over_spans-requires-clause-span : goal.over_spans-requires-clause-span
 over_spans-requires-clause-span c =

@@ -14,7 +14,7 @@ loop-start-init c =
     let seams = c.in_ok-all_seams.all_seams.items in
     parting_same c.args.held.now c.args.from c.args.to [] (spans_of c.in_ok-parts.parts.items) c.args.held.now c.args.held.now seams
     c.as_slice-seams.result.now c.args.from c.args.from
-    (parting_start c.args.held.now c.args.from c.args.to seams r.rises r.few r.span c.in_ok-all_seams.ensures)
+    (parting_start c.args.held.now c.args.from c.args.to seams r.rises r.within_limit r.span c.in_ok-all_seams.ensures)
     (ap spans_of c.in_ok-parts.ensures.items) refl c.as_slice-seams.ensures.value refl
 
 pub bounds-seams-count : goal.bounds-seams-count
@@ -34,10 +34,10 @@ part_over-requires-clause-rises c =
     subst (λ (ls : List Collection). IsCollection (all_of ls)) (sym c.split_at.ensures.front)
     (own_rises 0 c.next_cut-count.result c.loop-start.rest.now c.loop-start.invariant.rises)
 
-pub part_over-requires-clause-few : goal.part_over-requires-clause-few
-part_over-requires-clause-few c =
+pub part_over-requires-clause-within_limit : goal.part_over-requires-clause-within_limit
+part_over-requires-clause-within_limit c =
     let count = own_count c.next_cut-count.result c.loop-start.rest.now in
-    let few = c.loop-start.invariant.few in
+    let within_limit = c.loop-start.invariant.within_limit in
     let same = ap (λ (ls : List Collection). length (all_of ls)) c.split_at.ensures.front in
     omega arith
 

@@ -69,4 +69,4 @@ returns-clause-reads g c =
     let i = c.loop-from.invariant in
     let n : ℕ = length (g.B.PairReader.shown c.args.reader.now) in
     let paid = i.0.2 in
-    record { made = i.0.0; counts = i.0.1; some = omega arith; few = omega (arith, paid, digits_rise n (n + 1) (omega arith)) }
+    record { made = i.0.0; counts = i.0.1; some = omega arith; within_limit = omega (arith, paid, digits_rise n (n + 1) (omega arith)) }

@@ -47,7 +47,7 @@ returns-clause-reads g c =
     (λ each.
     face_reads (binary_digits (length hs + 1)) (binary_digits (length (g.B.PairReader.shown c.first_from-first.new.reader) + 1)) p q q p _
     _ _ _ same count (omega arith) first.reads c.first_from-after.ensures.reads
-    (record { made = q; counts = each; some = omega arith; few = omega arith }))
+    (record { made = q; counts = each; some = omega arith; within_limit = omega arith }))
     c.read_between.ensures.counts
 
 pub returns-clause-refused : goal.returns-clause-refused

@@ -30,7 +30,7 @@ put-requires-clause-next c =
     run_after (together c.loop-rest.layers.light.items (all_of c.loop-rest.layers.chunks.items)) rest run later c.args.held.now
     c.loop-rest.invariant.1
     (run_and_later rest run later c.run_len.result c.split_at.ensures.front c.split_at.ensures.back)
-    c.requires.rises c.requires.few c.loop-rest.invariant.2 (omega arith)
+    c.requires.rises c.requires.within_limit c.loop-rest.invariant.2 (omega arith)
     (subst (λ (x : Collection). IsOfOneCell x) (sym c.split_at.ensures.front) c.run_len.ensures.one_cell)
 
 pub loop-rest-preserved : goal.loop-rest-preserved

@@ -17,13 +17,13 @@ all_anew-requires-clause-rises g c =
     let list = c.in_ok-list.ensures.pairs ∙ ap (held_on c.loop-face.face) c.loop-face.invariant.2 in
     subst IsCollection (sym list) (held_rises c.loop-face.face 0 hs (g.met.B.PairReader.is_read c.args.reader.now).is_collection)
 
-pub all_anew-requires-clause-few : goal.all_anew-requires-clause-few
-all_anew-requires-clause-few g c =
+pub all_anew-requires-clause-within_limit : goal.all_anew-requires-clause-within_limit
+all_anew-requires-clause-within_limit g c =
     let hs = g.B.PairReader.shown c.args.reader.now in
     let list = c.in_ok-list.ensures.pairs ∙ ap (held_on c.loop-face.face) c.loop-face.invariant.2 in
-    let few = (g.met.B.PairReader.is_read c.args.reader.now).few in
+    let within_limit = (g.met.B.PairReader.is_read c.args.reader.now).within_limit in
     let own = held_few c.loop-face.face hs in
-    omega (arith, few, own, ap length list)
+    omega (arith, within_limit, own, ap length list)
 
 pub all_anew-requires-clause-on_face : goal.all_anew-requires-clause-on_face
 all_anew-requires-clause-on_face g c =
@@ -60,7 +60,7 @@ returns-clause-layout g c =
     let is = g.met.B.PairReader.is_read c.args.reader.now in
     let all = c.loop-face.all in
     let i = c.loop-face.invariant in
-    (all_layers hs all.heavy (spans_of all.parts.items) all.overs.items c.loop-face.face i.0 (omega arith) i.1 is.is_collection is.few).layout
+    (all_layers hs all.heavy (spans_of all.parts.items) all.overs.items c.loop-face.face i.0 (omega arith) i.1 is.is_collection is.within_limit).layout
 
 pub returns-clause-faces : goal.returns-clause-faces
 returns-clause-faces g c =
@@ -68,7 +68,7 @@ returns-clause-faces g c =
     let is = g.met.B.PairReader.is_read c.args.reader.now in
     let all = c.loop-face.all in
     let i = c.loop-face.invariant in
-    (all_layers hs all.heavy (spans_of all.parts.items) all.overs.items c.loop-face.face i.0 (omega arith) i.1 is.is_collection is.few).faces
+    (all_layers hs all.heavy (spans_of all.parts.items) all.overs.items c.loop-face.face i.0 (omega arith) i.1 is.is_collection is.within_limit).faces
 
 pub returns-clause-pairs : goal.returns-clause-pairs
 returns-clause-pairs g c =
@@ -76,4 +76,4 @@ returns-clause-pairs g c =
     let is = g.met.B.PairReader.is_read c.args.reader.now in
     let all = c.loop-face.all in
     let i = c.loop-face.invariant in
-    (all_layers hs all.heavy (spans_of all.parts.items) all.overs.items c.loop-face.face i.0 (omega arith) i.1 is.is_collection is.few).pairs
+    (all_layers hs all.heavy (spans_of all.parts.items) all.overs.items c.loop-face.face i.0 (omega arith) i.1 is.is_collection is.within_limit).pairs

@@ -8,7 +8,7 @@ new-requires-clause-rises c =
     between_rises c.args.self.now.bag.now.held c.in_ok-copied.field-0.items c.args.from (c.args.to - c.args.from) c.args.self.now.rises
     c.in_ok-copied.ensures
 
-pub new-requires-clause-few : goal.new-requires-clause-few
-new-requires-clause-few c =
-    between_few c.args.self.now.bag.now.held c.in_ok-copied.field-0.items c.args.from c.args.to c.args.self.now.few c.requires.rises
+pub new-requires-clause-within_limit : goal.new-requires-clause-within_limit
+new-requires-clause-within_limit c =
+    between_few c.args.self.now.bag.now.held c.in_ok-copied.field-0.items c.args.from c.args.to c.args.self.now.within_limit c.requires.rises
     c.requires.within c.in_ok-copied.ensures

@@ -12,5 +12,5 @@ returns-clause-refused c = record {
   made = c.args.to - c.args.from;
   counts = c.saturating_add-self.ensures ∙ reads_at_once (c.args.to - c.args.from) c.args.self.now.reads (omega arith);
   some = omega arith;
-  few = omega arith;
+  within_limit = omega arith;
 }

@@ -49,9 +49,9 @@ overflow_add-result c =
     let within = i.1 in
     let own = many_shared parts in
     let last = seen_at parts (n - 1) c.index-self-next.result c.deref.result.now (omega arith) c.deref.ensures in
-    let few = last_few (together (held_in spans) heavy) shown c.loop-next.offsets n (laid_over c.requires.layout) c.requires.layout.few some (omega arith) i.3 in
+    let within_limit = last_few (together (held_in spans) heavy) shown c.loop-next.offsets n (laid_over c.requires.layout) c.requires.layout.within_limit some (omega arith) i.3 in
     let same = same_count heavy spans (n - 1) (omega arith) in
-    omega (arith, few, same, c.range_count.ensures, ap (λ (s : SpanRanges). length s.ranges) last)
+    omega (arith, within_limit, same, c.range_count.ensures, ap (λ (s : SpanRanges). length s.ranges) last)
 
 pub returns-clause-offsets : goal.returns-clause-offsets
 returns-clause-offsets c =

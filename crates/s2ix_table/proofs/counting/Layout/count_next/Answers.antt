@@ -13,8 +13,8 @@ use Rattle.s2ix_table.proofs.Reading.{first_offset}
 use Rattle.s2ix_table.proofs.Shared.{many_shared, seen_at}
 use Rattle.s2ix_table.proofs.counting.Layout.count_next.Goals as goal
 
-pub after-offset-requires-clause-few : goal.after-offset-requires-clause-few
-after-offset-requires-clause-few c =
+pub after-offset-requires-clause-within_limit : goal.after-offset-requires-clause-within_limit
+after-offset-requires-clause-within_limit c =
     let parts = c.args.self.parts.now in
     let heavy = heavy_in c.args.self.heavy.now in
     let shown = covered heavy (spans_of parts) in
@@ -24,8 +24,8 @@ after-offset-requires-clause-few c =
     let many = many_covered heavy (spans_of parts) ∙ many_shared parts in
     let all = together (held_in (spans_of parts)) heavy in
     let over = laid_over c.requires.layout in
-    let few = last_few all shown os n over c.requires.layout.few c.requires.some (omega arith) c.requires.before in
-    omega (arith, few)
+    let within_limit = last_few all shown os n over c.requires.layout.within_limit c.requires.some (omega arith) c.requires.before in
+    omega (arith, within_limit)
 
 pub after-offset-requires-clause-neighbours : goal.after-offset-requires-clause-neighbours
 after-offset-requires-clause-neighbours c =
@@ -61,7 +61,7 @@ move_from-requires-clause-movable c =
     (seen_at parts n c.index-self-next-2.result c.deref-2.result.now within c.deref-2.ensures) c.is_under_same-same_over.ensures)) in
     let test = c.if-next-end.true in
     let same = c.if-offset-offsets.true in
-    let right = moved_right all shown os c.after-offset.result n c.args.end over c.requires.layout.few c.requires.some (omega arith)
+    let right = moved_right all shown os c.after-offset.result n c.args.end over c.requires.layout.within_limit c.requires.some (omega arith)
     (c.requires.many ∙ sym many) c.requires.before c.requires.behind (omega (arith, test)) is (omega (arith, same)) in
     right.0
 
@@ -86,7 +86,7 @@ returns-then-offset-offsets-clause-many c =
     (seen_at parts n c.index-self-next-2.result c.deref-2.result.now within c.deref-2.ensures) c.is_under_same-same_over.ensures)) in
     let test = c.if-next-end.true in
     let same = c.if-offset-offsets.true in
-    let right = moved_right all shown os c.after-offset.result n c.args.end over c.requires.layout.few c.requires.some (omega arith)
+    let right = moved_right all shown os c.after-offset.result n c.args.end over c.requires.layout.within_limit c.requires.some (omega arith)
     (c.requires.many ∙ sym many) c.requires.before c.requires.behind (omega (arith, test)) is (omega (arith, same)) in
     ap length (c.move_from.ensures ∙ right.1) ∙ length_offsets first_offset shown ∙ many
 
@@ -111,7 +111,7 @@ returns-then-offset-offsets-clause-before c =
     (seen_at parts n c.index-self-next-2.result c.deref-2.result.now within c.deref-2.ensures) c.is_under_same-same_over.ensures)) in
     let test = c.if-next-end.true in
     let same = c.if-offset-offsets.true in
-    let right = moved_right all shown os c.after-offset.result n c.args.end over c.requires.layout.few c.requires.some (omega arith)
+    let right = moved_right all shown os c.after-offset.result n c.args.end over c.requires.layout.within_limit c.requires.some (omega arith)
     (c.requires.many ∙ sym many) c.requires.before c.requires.behind (omega (arith, test)) is (omega (arith, same)) in
     ap (take (length parts)) (c.move_from.ensures ∙ right.1)
 
@@ -136,7 +136,7 @@ returns-then-offset-offsets-clause-behind c =
     (seen_at parts n c.index-self-next-2.result c.deref-2.result.now within c.deref-2.ensures) c.is_under_same-same_over.ensures)) in
     let test = c.if-next-end.true in
     let same = c.if-offset-offsets.true in
-    let right = moved_right all shown os c.after-offset.result n c.args.end over c.requires.layout.few c.requires.some (omega arith)
+    let right = moved_right all shown os c.after-offset.result n c.args.end over c.requires.layout.within_limit c.requires.some (omega arith)
     (c.requires.many ∙ sym many) c.requires.before c.requires.behind (omega (arith, test)) is (omega (arith, same)) in
     subst (λ ps. AreOffsetsFrom (max (length parts) c.args.end) ps shown) (sym (c.move_from.ensures ∙ right.1))
     (own_behind (max (length parts) c.args.end) shown)

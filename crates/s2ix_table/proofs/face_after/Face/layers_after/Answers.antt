@@ -18,7 +18,7 @@ heavy_after-requires-clause-entries_rise c =
     let ts = spans_of f.parts.now in
     let own : c.in-Some.own.heavy.items ≡ over_entries ts f.heavy.now c.args.entries.now = search rules in
     (are_over f.face ts f.overs.now f.heavy.now c.args.entries.now c.as_slice.result.now c.requires.layered c.requires.entries_rise
-    c.requires.on_face c.requires.few (c.as_slice.ensures.value ∙ own)).rise
+    c.requires.on_face c.requires.within_limit (c.as_slice.ensures.value ∙ own)).rise
 
 pub heavy_after-requires-clause-apart : goal.heavy_after-requires-clause-apart
 heavy_after-requires-clause-apart c =
@@ -26,7 +26,7 @@ heavy_after-requires-clause-apart c =
     let ts = spans_of f.parts.now in
     let own : c.in-Some.own.heavy.items ≡ over_entries ts f.heavy.now c.args.entries.now = search rules in
     (are_over f.face ts f.overs.now f.heavy.now c.args.entries.now c.as_slice.result.now c.requires.layered c.requires.entries_rise
-    c.requires.on_face c.requires.few (c.as_slice.ensures.value ∙ own)).apart
+    c.requires.on_face c.requires.within_limit (c.as_slice.ensures.value ∙ own)).apart
 
 pub heavy_after-requires-clause-on_face : goal.heavy_after-requires-clause-on_face
 heavy_after-requires-clause-on_face c =
@@ -34,15 +34,15 @@ heavy_after-requires-clause-on_face c =
     let ts = spans_of f.parts.now in
     let own : c.in-Some.own.heavy.items ≡ over_entries ts f.heavy.now c.args.entries.now = search rules in
     (are_over f.face ts f.overs.now f.heavy.now c.args.entries.now c.as_slice.result.now c.requires.layered c.requires.entries_rise
-    c.requires.on_face c.requires.few (c.as_slice.ensures.value ∙ own)).on_face
+    c.requires.on_face c.requires.within_limit (c.as_slice.ensures.value ∙ own)).on_face
 
-pub heavy_after-requires-clause-few : goal.heavy_after-requires-clause-few
-heavy_after-requires-clause-few c =
+pub heavy_after-requires-clause-within_limit : goal.heavy_after-requires-clause-within_limit
+heavy_after-requires-clause-within_limit c =
     let f = c.args.self in
     let ts = spans_of f.parts.now in
     let own : c.in-Some.own.heavy.items ≡ over_entries ts f.heavy.now c.args.entries.now = search rules in
     (are_over f.face ts f.overs.now f.heavy.now c.args.entries.now c.as_slice.result.now c.requires.layered c.requires.entries_rise
-    c.requires.on_face c.requires.few (c.as_slice.ensures.value ∙ own)).few
+    c.requires.on_face c.requires.within_limit (c.as_slice.ensures.value ∙ own)).within_limit
 
 pub and_light-requires-clause-layered : goal.and_light-requires-clause-layered
 and_light-requires-clause-layered c =
@@ -68,8 +68,8 @@ and_light-requires-clause-entries_rise c =
     subst IsChangeList (sym (c.as_slice-2.ensures.value ∙ light))
     (entries_rise (fails (goes_over ts (all_of f.heavy.now))) 0 es c.requires.entries_rise)
 
-pub and_light-requires-clause-few : goal.and_light-requires-clause-few
-and_light-requires-clause-few c =
+pub and_light-requires-clause-within_limit : goal.and_light-requires-clause-within_limit
+and_light-requires-clause-within_limit c =
     let f = c.args.self in
     let es = c.args.entries.now in
     let ts = spans_of f.parts.now in
@@ -84,7 +84,7 @@ and_light-requires-clause-few c =
     let then = (over_first f.face ts shown f.overs.now under.overs.items f.heavy.now under.heavy es c.as_slice.result.now c.as_slice-2.result.now
     under.parts.first under.parts.end c.requires.layered c.requires.entries_rise (c.as_slice.ensures.value ∙ own)
     (c.as_slice-2.ensures.value ∙ light) first end with).1 in
-    subst (λ (hs : Collection). length hs ≤ 1000000) (sym then) c.requires.few
+    subst (λ (hs : Collection). length hs ≤ 1000000) (sym then) c.requires.within_limit
 
 pub returns-clause-with : goal.returns-clause-with
 returns-clause-with c =

@@ -25,7 +25,7 @@ pairs c =
     let r = c.args.touched in
     let is = c.requires in
     touched_pairs f.face (spans_of f.parts.now) f.overs.now f.heavy.now c.args.entries.now r.first r.end r.from r.to c.as_slice.result.now
-    is.six is.layered is.touched is.entries_rise is.light is.few (before_is c)
+    is.six is.layered is.touched is.entries_rise is.light is.within_limit (before_is c)
 
 -- what the change makes of them
 after_is : (c : After-as_slice-2) → changed c.as_slice.result.now c.args.entries.now ≡ c.as_slice-2.result.now
@@ -43,10 +43,10 @@ over_spans-requires-clause-rises c =
     let h = goal.at.over_spans-requires-clause-rises c in
     (then h.After-as_slice-2 (pairs h.After-as_slice)).rises_then
 
-pub over_spans-requires-clause-few : goal.over_spans-requires-clause-few
-over_spans-requires-clause-few c =
-    let h = goal.at.over_spans-requires-clause-few c in
-    (then h.After-as_slice-2 (pairs h.After-as_slice)).few
+pub over_spans-requires-clause-within_limit : goal.over_spans-requires-clause-within_limit
+over_spans-requires-clause-within_limit c =
+    let h = goal.at.over_spans-requires-clause-within_limit c in
+    (then h.After-as_slice-2 (pairs h.After-as_slice)).within_limit
 
 pub over_spans-requires-clause-span : goal.over_spans-requires-clause-span
 over_spans-requires-clause-span c =

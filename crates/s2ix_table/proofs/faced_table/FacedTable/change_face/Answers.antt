@@ -28,7 +28,7 @@ face_in c =
     let t = c.args.self.now in
     let new = c.in_ok-new.new in
     face_put_in c.args.change.now c.args.face new.parts.first new.parts.end (spans_of new.parts.parts.items) new.overs.items new.heavy t.joined t.layered
-    c.all_are_chunks.ensures c.requires.six c.requires.only c.requires.rises c.requires.few c.in_ok-new.ensures.with
+    c.all_are_chunks.ensures c.requires.six c.requires.only c.requires.rises c.requires.within_limit c.in_ok-new.ensures.with
 
 -- the place of what gives way among all parts
 first_in : (c : After-on) → c.on.result.parts.first ≡ first_of_face c.args.self.now.faces c.args.face + c.in_ok-new.new.parts.first

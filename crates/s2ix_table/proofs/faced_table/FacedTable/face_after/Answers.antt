@@ -38,18 +38,18 @@ after-requires-clause-rises c =
     c.from.ensures c.requires.six c.in-Some.is in
     subst IsCollection (sym list) (held_rises face 0 (changed old change) (changed_keeps old change t.rises c.entries.ensures.rises))
 
-pub after-requires-clause-few : goal.after-requires-clause-few
-after-requires-clause-few c =
+pub after-requires-clause-within_limit : goal.after-requires-clause-within_limit
+after-requires-clause-within_limit c =
     let t = c.args.self.now in
     let change = c.args.change.now in
     let face : ℕ = c.args.face in
     let old = together (held_in (spans_of t.parts.items)) (heavy_in t.heavy) in
     let list = list_some c.args.lists.now change (changed old change) face c.from.result c.index-lists-from.result c.in-Some.list c.requires.lists
     c.from.ensures c.requires.six c.in-Some.is in
-    let few = c.requires.few in
+    let within_limit = c.requires.within_limit in
     let own = held_few face (changed old change) in
     let same = ap length list in
-    omega (arith, few, own, same)
+    omega (arith, within_limit, own, same)
 
 pub after-requires-clause-on_face : goal.after-requires-clause-on_face
 after-requires-clause-on_face c =

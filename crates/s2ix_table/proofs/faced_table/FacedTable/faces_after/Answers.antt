@@ -52,7 +52,7 @@ returns-clause-layout c =
     let hs = changed (together (held_in (spans_of t.parts.items)) (heavy_in t.heavy)) c.args.change.now in
     let all = c.loop-face.all in
     let i = c.loop-face.invariant in
-    (all_layers hs all.heavy (spans_of all.parts.items) all.overs.items c.loop-face.face i.0 (omega arith) i.1 c.requires.rises c.requires.few).layout
+    (all_layers hs all.heavy (spans_of all.parts.items) all.overs.items c.loop-face.face i.0 (omega arith) i.1 c.requires.rises c.requires.within_limit).layout
 
 pub returns-clause-pairs : goal.returns-clause-pairs
 returns-clause-pairs c =
@@ -60,4 +60,4 @@ returns-clause-pairs c =
     let hs = changed (together (held_in (spans_of t.parts.items)) (heavy_in t.heavy)) c.args.change.now in
     let all = c.loop-face.all in
     let i = c.loop-face.invariant in
-    (all_layers hs all.heavy (spans_of all.parts.items) all.overs.items c.loop-face.face i.0 (omega arith) i.1 c.requires.rises c.requires.few).pairs
+    (all_layers hs all.heavy (spans_of all.parts.items) all.overs.items c.loop-face.face i.0 (omega arith) i.1 c.requires.rises c.requires.within_limit).pairs

@@ -24,6 +24,6 @@ returns-clause-limit c =
 
 pub overflow_add-own : goal.overflow_add-own
 overflow_add-own c =
-    let few = ends_few c.args.part c.args.self.now.joined c.requires.next.listed in
+    let within_limit = ends_few c.args.part c.args.self.now.joined c.requires.next.listed in
     let within = c.requires.next.within in
     omega arith

@@ -18,10 +18,10 @@ change_faces-requires-clause-lists g c =
 pub change_faces-requires-clause-rises : goal.change_faces-requires-clause-rises
 change_faces-requires-clause-rises g c = subst IsCollection (sym c.requires.made) (g.met.B.PairReader.is_read c.args.bag.now).is_collection
 
-pub change_faces-requires-clause-few : goal.change_faces-requires-clause-few
-change_faces-requires-clause-few g c =
-    let few = (g.met.B.PairReader.is_read c.args.bag.now).few in
-    omega (arith, few, ap length c.requires.made)
+pub change_faces-requires-clause-within_limit : goal.change_faces-requires-clause-within_limit
+change_faces-requires-clause-within_limit g c =
+    let within_limit = (g.met.B.PairReader.is_read c.args.bag.now).within_limit in
+    omega (arith, within_limit, ap length c.requires.made)
 
 pub returns-in_err-lists-clause-reads_few : goal.returns-in_err-lists-clause-reads_few
 returns-in_err-lists-clause-reads_few g c =

@@ -30,7 +30,7 @@ overflow_add-result c =
     let t = c.args.self.now in
     let within = (found c).within in
     let counted = t.joined.counted in
-    let few = few_joined t.joined in
+    let within_limit = few_joined t.joined in
     omega arith
 
 pub returns-clause-within : goal.returns-clause-within

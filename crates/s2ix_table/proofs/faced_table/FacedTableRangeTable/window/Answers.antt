@@ -79,7 +79,7 @@ ranges_are c =
     )
 
 pub overflow_add-end : goal.overflow_add-end
-overflow_add-end c = let few = (ranges_are (goal.at.overflow_add-end c).After-range_count).2 in omega arith
+overflow_add-end c = let within_limit = (ranges_are (goal.at.overflow_add-end c).After-range_count).2 in omega arith
 
 pub overflow_sub-result : goal.overflow_sub-result
 overflow_sub-result c = (ranges_are (goal.at.overflow_sub-result c).After-range_count).0

@@ -35,14 +35,14 @@ new-requires-2-clause-rises g c =
     let i = c.loop-place.invariant in
     between_rises hs c.loop-place.held.items c.args.from (c.loop-place.place - c.args.from) is.is_collection i.copied.pairs
 
-pub new-requires-2-clause-few : goal.new-requires-2-clause-few
-new-requires-2-clause-few g c =
+pub new-requires-2-clause-within_limit : goal.new-requires-2-clause-within_limit
+new-requires-2-clause-within_limit g c =
     let hs = g.Self.PairReader.shown c.args.self.now in
     let is = g.met.Self.PairReader.is_read c.args.self.now in
     let i = c.loop-place.invariant in
     let ends = i.copied.ends in
     let within = c.requires.within in
-    between_few hs c.loop-place.held.items c.args.from c.loop-place.place is.few i.copied.begins (omega arith) i.copied.pairs
+    between_few hs c.loop-place.held.items c.args.from c.loop-place.place is.within_limit i.copied.begins (omega arith) i.copied.pairs
 
 pub returns-clause-pairs : goal.returns-clause-pairs
 returns-clause-pairs g c =

@@ -11,8 +11,8 @@ pub put_chunks-requires-clause-rises : goal.put_chunks-requires-clause-rises
 put_chunks-requires-clause-rises c =
     heavy_rises c.args.self.now.light.items c.args.run.now c.args.self.now.chunks.items c.requires.split c.requires.next
 
-pub put_chunks-requires-clause-few : goal.put_chunks-requires-clause-few
-put_chunks-requires-clause-few c =
+pub put_chunks-requires-clause-within_limit : goal.put_chunks-requires-clause-within_limit
+put_chunks-requires-clause-within_limit c =
     heavy_few c.args.self.now.light.items c.args.run.now c.args.self.now.chunks.items c.requires.split c.requires.next
 
 pub returns-in_ok-put_chunks-clause-split : goal.returns-in_ok-put_chunks-clause-split
