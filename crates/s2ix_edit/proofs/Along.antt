@@ -59,8 +59,8 @@ changes_back bag (es ∷ older) rest b back =
 
 pub changes_of_history : (s : State) → IsStore s → changes_along (history_of s).collections ≡ s.done ++ reverse s.undone
 changes_of_history s st =
-    changes_back s.bag (reverse s.done) (later s.bag.held (reverse s.undone)) st.bag st.back
-    ∙ ap₂ (λ (xs ys : List (List Entry)). xs ++ ys) (reverse-reverse s.done) (changes_on s.bag (reverse s.undone) st.bag st.on)
+    changes_back s.bag (reverse s.done) (later s.bag.held (reverse s.undone)) st.bag st.can_go_back
+    ∙ ap₂ (λ (xs ys : List (List Entry)). xs ++ ys) (reverse-reverse s.done) (changes_on s.bag (reverse s.undone) st.bag st.can_go_on)
 
 -- ---- each collection is within the limits
 
@@ -86,8 +86,8 @@ pub history_within : (s : State) → IsStore s → All (λ hs. IsBag (with_held 
 history_within s st =
     let Fits : Collection → Type 0 = λ hs. IsBag (with_held s.bag hs) in
     All-append Fits (earlier s.bag.held (reverse s.done)) (s.bag.held ∷ later s.bag.held (reverse s.undone))
-    (within_back s.bag (reverse s.done) st.bag st.back)
-    (All-cons Fits s.bag.held (later s.bag.held (reverse s.undone)) st.bag (within_on s.bag (reverse s.undone) st.bag st.on))
+    (within_back s.bag (reverse s.done) st.bag st.can_go_back)
+    (All-cons Fits s.bag.held (later s.bag.held (reverse s.undone)) st.bag (within_on s.bag (reverse s.undone) st.bag st.can_go_on))
 
 -- ---- each change has entries
 
@@ -117,13 +117,13 @@ all_back_again P ess all =
     subst (λ (xs : List (List Entry)). All P xs) (reverse-reverse ess) (all_reversed P (reverse ess) all)
 
 pub some_done : (s : State) → IsStore s → All (λ es. 0 < length es) s.done
-some_done s st = all_back_again HasEntries s.done (some_back s.bag (reverse s.done) st.back)
+some_done s st = all_back_again HasEntries s.done (some_back s.bag (reverse s.done) st.can_go_back)
 
 pub changes_have_entries : (s : State) → IsStore s → All (λ es. 0 < length es) (s.done ++ s.undone)
 changes_have_entries s st =
     All-append HasEntries s.done s.undone
     (some_done s st)
-    (all_back_again HasEntries s.undone (some_on s.bag (reverse s.undone) st.on))
+    (all_back_again HasEntries s.undone (some_on s.bag (reverse s.undone) st.can_go_on))
 
 -- ---- the cursor
 

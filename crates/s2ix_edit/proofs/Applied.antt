@@ -6,7 +6,7 @@ use Rattle.std.proofs.lemmas.List.Elements.{All-cons, All-head, All-nil, All-tai
 use Rattle.s2ix_bag_pairs.specs.declared.limits.Limits.{Limits}
 use Rattle.s2ix_bag_pairs.specs.declared.pair.Entry.{Entry}
 use Rattle.s2ix_bag_lists.specs.Apply.{apply_refusal}
-use Rattle.s2ix_bag_pairs.specs.Change.{change_between, changed, differences, inverse_of, IsChangeList, joined}
+use Rattle.s2ix_bag_pairs.specs.Change.{change_between, changed, differences, IsChangeList, joined}
 use Rattle.s2ix_bag_pairs.specs.Collection.{Collection, LimitedCollection, IsBag, count_in}
 use Rattle.s2ix_bag_pairs.specs.Limits.{changes_limit}
 use Rattle.s2ix_bag_lists.proofs.Refusals.{made_is_bag, taken_from_none}
@@ -27,9 +27,11 @@ use Rattle.s2ix_edit.specs.Store.{CanGoBack, IsStore}
 use Rattle.s2ix_edit.proofs.Along.{all_back_again, some_back}
 use Rattle.s2ix_edit.proofs.AtCursor.{back_over, goes_back}
 use Rattle.s2ix_edit.proofs.Histories.{HasEntries, few_are_recordable, neither_refused, recordable_are_few, recordable_have_entries, taken_whole}
-use Rattle.s2ix_edit.proofs.Joined.{before_last, between_taken, first_before_all, last_goes_back, last_taken_back, rewound_before}
+use Rattle.s2ix_edit.proofs.Between.{between_taken}
+use Rattle.s2ix_edit.proofs.Joined.{before_last, first_before_all, last_goes_back, last_taken_back, rewound_before}
 use Rattle.s2ix_edit.proofs.Kept.{edit_keeps}
 use Rattle.s2ix_edit.proofs.Shortened.{held_before}
+use Rattle.s2ix_edit.proofs.Standing.{rises_back}
 use Rattle.s2ix_edit.proofs.Taken.{changed_back, not_mismatched}
 
 -- the bag after changes can go back over them, and on as before
@@ -87,14 +89,14 @@ pub given_keeps : (s : State) (changes : List (List Entry)) → IsStore s → Al
 given_keeps s changes st rise none =
     let room = changes_limit s.bag.limits - length s.done in
     let both = neither_refused (record_refusal room changes) (replay_refusal s.bag changes) none in
-    let few = recordable_are_few room changes both.0 in
+    let within_limit = recordable_are_few room changes both.0 in
     let within = st.room in
     let limits = ap changes_limit (limits_stay s.bag (with_numbers changes)) in
     record {
       bag = replayed_is_bag s.bag changes st.bag rise both.1;
-      back = back_over_all s.bag s.done changes 1 st.bag st.back rise (recordable_have_entries room changes both.0) both.1;
-      on = tt;
-      room = omega (arith, few, within, limits, length-append s.done changes);
+      can_go_back = back_over_all s.bag s.done changes 1 st.bag st.can_go_back rise (recordable_have_entries room changes both.0) both.1;
+      can_go_on = tt;
+      room = omega (arith, within_limit, within, limits, length-append s.done changes);
     }
 
 pub apply_keeps : (s : State) (changes : List (List Entry)) → IsStore s → All IsChangeList changes → given_refusal s changes ≡ None
@@ -182,11 +184,6 @@ edit_followed s other edit st same =
     (changed_between other.bag.held (edited (history_of other) edit) st.bag.rises (held_edited_is_collection other edit st.bag.rises))
 
 -- each change that can be taken back rises
-pub rise_back : (bag : LimitedCollection) (ess : List (List Entry)) → CanGoBack bag ess → All IsChangeList ess
-rise_back bag [] back = All-nil IsChangeList
-rise_back bag (es ∷ older) back =
-    All-cons IsChangeList es older back.0 (rise_back (with_held bag (changed bag.held (inverse_of es))) older back.3)
-
 made_bag : (bag other : LimitedCollection) → bag.limits ≡ other.limits → bag.held ≡ other.held → bag ≡ other
 made_bag bag other limits held =
     ap₂ (λ (l : Limits) (h : Collection). let b : LimitedCollection = record { limits = l; held = h } in b) limits held
@@ -205,15 +202,15 @@ pub changes_followed : (s other : State) (number : ℕ) → IsStore other
     → s.bag ≡ with_held other.bag (steps_before number (history_of other)) → length s.done + number ≤ changes_limit s.bag.limits
     → (given_refusal s (drop (length other.done - number) other.done) ≡ None)
     × ((after_apply s (drop (length other.done - number) other.done)).bag ≡ other.bag)
-changes_followed s other number st same few =
+changes_followed s other number st same within_limit =
     let changes = drop (length other.done - number) other.done in
     let back = last_goes_back other number st in
     let room = changes_limit s.bag.limits - length s.done in
     let before = same ∙ before_by_rewind other number in
-    let home = replay_of_rewind other.bag changes st.bag (all_back_again IsChangeList changes (rise_back other.bag (reverse changes) back))
+    let home = replay_of_rewind other.bag changes st.bag (all_back_again IsChangeList changes (rises_back other.bag (reverse changes) back))
     (last_taken_back other number st) in (
       taken_whole (record_refusal room changes) (replay_refusal s.bag changes)
-          (few_are_recordable room changes (omega (arith, few, length-drop (length other.done - number) other.done))
+          (few_are_recordable room changes (omega (arith, within_limit, length-drop (length other.done - number) other.done))
           (all_back_again HasEntries changes (some_back other.bag (reverse changes) back)))
           (ap (λ bag. replay_refusal bag changes) before ∙ home.0),
       bag_after_apply s changes ∙ ap (λ bag. replayed bag changes) before ∙ home.1,

@@ -67,8 +67,8 @@ stands_recorded s after es is st room rises some taken b =
     let Bag : LimitedCollection → Type 0 = λ bag. IsBag bag in
     subst Stands (sym is) (record {
       bag = subst Bag (ap (λ (t : State). t.bag) is) b;
-      back = back_over s.bag s.done es st.bag st.back rises some taken;
-      on = tt;
+      can_go_back = back_over s.bag s.done es st.bag st.can_go_back rises some taken;
+      can_go_on = tt;
       room = omega (arith, length-append s.done (es ∷ []));
     })
 
@@ -109,7 +109,7 @@ pub goes_back : (s : State) (front : List (List Entry)) (es : List Entry) → Is
     → CanGoBack s.bag (es ∷ reverse front)
 goes_back s front es st is =
     let Back : List (List Entry) → Type 0 = λ xs. CanGoBack s.bag xs in
-    subst Back (ap reverse is ∙ reverse_push front es) st.back
+    subst Back (ap reverse is ∙ reverse_push front es) st.can_go_back
 
 -- and forth again: the change taken back twice is the change
 pub forth_again : (bag : LimitedCollection) (es : List Entry) → IsCollection bag.held → IsChangeList es
@@ -135,20 +135,20 @@ stands_undone s after es st u b =
     let Later : Collection → Type 0 = λ hs. CanGoOn (with_held s.bag hs) (reverse s.undone) in
     record {
       bag = b;
-      back = subst Back (sym u.bag) back.3;
-      on = subst OnList (sym (ap reverse u.undone ∙ reverse_push s.undone es))
+      can_go_back = subst Back (sym u.bag) back.3;
+      can_go_on = subst OnList (sym (ap reverse u.undone ∙ reverse_push s.undone es))
           (subst On (sym u.bag) (
             back.0,
             back.1,
             taken_again s.bag es st.bag back.0 back.2,
-            subst Later (sym (forth_again s.bag es st.bag.rises back.0 matches)) st.on,
+            subst Later (sym (forth_again s.bag es st.bag.rises back.0 matches)) st.can_go_on,
           ));
       room =
-          let few = st.room in
+          let within_limit = st.room in
           let limits = ap (λ (bag : LimitedCollection). changes_limit bag.limits) u.bag in
           omega (
             arith,
-            few,
+            within_limit,
             limits,
             ap length u.done,
             ap length u.undone,
@@ -193,7 +193,7 @@ pub goes_on : (s : State) (front : List (List Entry)) (es : List Entry) → IsSt
     → CanGoOn s.bag (es ∷ reverse front)
 goes_on s front es st is =
     let On : List (List Entry) → Type 0 = λ xs. CanGoOn s.bag xs in
-    subst On (ap reverse is ∙ reverse_push front es) st.on
+    subst On (ap reverse is ∙ reverse_push front es) st.can_go_on
 
 pub stands_redone : (s after : State) (es : List Entry) → IsStore s → Redoes s after es → IsBag after.bag → IsStore after
 stands_redone s after es st r b =
@@ -203,14 +203,14 @@ stands_redone s after es st r b =
     let On : LimitedCollection → Type 0 = λ bag. CanGoOn bag (reverse after.undone) in
     record {
       bag = b;
-      back = subst BackList (sym r.done) (subst Back (sym r.bag) (back_over s.bag s.done es st.bag st.back on.0 on.1 on.2));
-      on = subst On (sym r.bag) on.3;
+      can_go_back = subst BackList (sym r.done) (subst Back (sym r.bag) (back_over s.bag s.done es st.bag st.can_go_back on.0 on.1 on.2));
+      can_go_on = subst On (sym r.bag) on.3;
       room =
-          let few = st.room in
+          let within_limit = st.room in
           let limits = ap (λ (bag : LimitedCollection). changes_limit bag.limits) r.bag in
           omega (
             arith,
-            few,
+            within_limit,
             limits,
             ap length r.done,
             ap length r.undone,

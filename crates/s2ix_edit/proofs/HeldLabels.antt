@@ -192,17 +192,17 @@ module _ (hs : Collection) (labels : List Label) (are : labels ≡ label_list hs
 
       pub fewer : old.pairs < length hs
       fewer =
-          let few = few_with h.pair.label before in
+          let within_limit = few_with h.pair.label before in
           let is : old.pairs ≡ length (held_of h.pair.label before) = ap (λ (t : HeldLabel). t.pairs) was_total in
           let long = ap length parts in
-          omega (arith, few, is, long, length-append before (h ∷ rest))
+          omega (arith, within_limit, is, long, length-append before (h ∷ rest))
 
       pub lesser : old.copies + h.count ≤ copies_in hs
       lesser =
-          let few = copies_with h.pair.label before in
+          let within_limit = copies_with h.pair.label before in
           let is : old.copies ≡ copies_in (held_of h.pair.label before) = ap (λ (t : HeldLabel). t.copies) was_total in
           let sum = ap copies_in parts in
-          omega (arith, few, is, sum, sum_by-append (λ (k : Held). k.count) before (h ∷ rest), sum_by-cons (λ (k : Held). k.count) h rest)
+          omega (arith, within_limit, is, sum, sum_by-append (λ (k : Held). k.count) before (h ∷ rest), sum_by-cons (λ (k : Held). k.count) h rest)
 
       pub next_totals : set all place (counted_with old h) ≡ map (total_of (before ++ h ∷ [])) labels
       next_totals =
@@ -233,7 +233,7 @@ module _ (hs : Collection) (list : List HeldLabel) (is : list ≡ held_labels hs
   all_copies = of_each (λ (t : HeldLabel). t.copies ≡ copies_in (held_of t.label hs)) (λ label. refl)
 
   pub all_few : (most : ℕ) → length hs ≤ most → All (λ total. total.pairs ≤ most) list
-  all_few most few = of_each (λ (t : HeldLabel). t.pairs ≤ most) (λ label. let within = few_with label hs in omega arith)
+  all_few most within_limit = of_each (λ (t : HeldLabel). t.pairs ≤ most) (λ label. let within = few_with label hs in omega arith)
 
 -- ---- totals are the same if their parts are
 

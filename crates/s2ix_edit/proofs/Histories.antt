@@ -102,8 +102,8 @@ recordable_have_entries room changes none =
 -- and such changes can be recorded
 pub few_are_recordable : (room : ℕ) (changes : List (List Entry)) → length changes ≤ room → All HasEntries changes
     → record_refusal room changes ≡ None
-few_are_recordable room changes few some =
-    ap₂ unrecorded (le-ltb room (length changes) few) (none_empty 1 changes some)
+few_are_recordable room changes within_limit some =
+    ap₂ unrecorded (le-ltb room (length changes) within_limit) (none_empty 1 changes some)
 
 -- nothing is refused if neither is
 pub taken_whole : (first : Option HistoryError) (refused : Option ReplayError) → first ≡ None → refused ≡ None
@@ -123,20 +123,20 @@ pub stands_led : (bag : LimitedCollection) (changes : List (List Entry)) → IsB
 stands_led bag changes is_bag rise none =
     let room = changes_limit bag.limits in
     let both = neither_refused (record_refusal room changes) (rewind_refusal bag changes) none in
-    let few = recordable_are_few room changes both.0 in
+    let within_limit = recordable_are_few room changes both.0 in
     record {
       bag = is_bag;
-      back = turned_back bag changes rise (recordable_have_entries room changes both.0) both.1;
-      on = tt;
-      room = omega (arith, few);
+      can_go_back = turned_back bag changes rise (recordable_have_entries room changes both.0) both.1;
+      can_go_on = tt;
+      room = omega (arith, within_limit);
     }
 
 -- and those of a store are taken back
 pub store_is_led : (s : State) → IsStore s → history_refusal s.bag s.done ≡ None
 store_is_led s st =
-    let few = st.room in
+    let within_limit = st.room in
     taken_whole (record_refusal (changes_limit s.bag.limits) s.done) (rewind_refusal s.bag s.done)
-    (few_are_recordable (changes_limit s.bag.limits) s.done (omega (arith, few)) (some_done s st))
+    (few_are_recordable (changes_limit s.bag.limits) s.done (omega (arith, within_limit)) (some_done s st))
     (done_is_taken_back s st)
 
 -- the first of some changes is taken if all are

@@ -1,30 +1,25 @@
 -- The last changes of a store joined to one.
-use Rattle.std.proofs.Common.{◌≡◌, ◌+◌, ◌-◌, ◌<◌, ◌≤◌, ◌==◌, ℕ, List, [], ◌∷◌, ◌++◌, All, Bool, true, false, cond, get_or, length, map, take, drop, reverse, None, refl, sym, ap, ap₂, ◌∙◌, subst, ⊎_elim, arith}
-use Rattle.std.proofs.lemmas.Bool.{cases_eq, cases_lt, cond-false, ne_eqb}
-use Rattle.std.proofs.lemmas.List.Elements.{All-head, All-tail}
-use Rattle.std.proofs.Math.Seq.{get_or-append_seam, take-append-add, take-append_seam}
-use Rattle.std.proofs.lemmas.List.{append_assoc, append-nil, drop_all, get_or-drop, length-append, length-drop, length-reverse, reverse-append, take-append-drop, take_all}
+use Rattle.std.proofs.Common.{◌≡◌, ◌+◌, ◌-◌, ◌<◌, ◌≤◌, ◌==◌, ℕ, List, [], ◌∷◌, ◌++◌, cond, get_or, length, map, take, drop, reverse, None, refl, sym, ap, ap₂, ◌∙◌, subst, ⊎_elim, arith}
+use Rattle.std.proofs.lemmas.Bool.{cases_lt, cond-false, ne_eqb}
+use Rattle.std.proofs.Math.Seq.{take-append-add, take-append_seam}
+use Rattle.std.proofs.lemmas.List.{append_assoc, append-nil, drop_all, get_or-drop, length-append, length-drop, reverse-append, take-append-drop, take_all}
 use Rattle.s2ix_bag_pairs.specs.declared.pair.Entry.{Entry}
-use Rattle.s2ix_bag_pairs.specs.declared.pair.Held.{Held}
 use Rattle.s2ix_bag_lists.specs.Apply.{apply_refusal}
-use Rattle.s2ix_bag_lists.proofs.Lengths.{AreAfterWithin}
-use Rattle.s2ix_bag_lists.proofs.Refusals.{before_from_no_mismatch, made_is_bag, refusal_of_taken, taken_from_none}
-use Rattle.s2ix_bag_pairs.specs.Change.{change_between, changed, differences, inverse_of, joined}
-use Rattle.s2ix_bag_pairs.specs.Collection.{Collection, LimitedCollection, IsBag, IsCollection, count_at, count_in}
-use Rattle.s2ix_bag_pairs.specs.Limits.{count_limit}
-use Rattle.s2ix_bag_pairs.specs.Pair.{rank_of}
-use Rattle.s2ix_bag_pairs.proofs.Counts.{count_head, count_tail}
+use Rattle.s2ix_bag_lists.proofs.Refusals.{made_is_bag, taken_from_none}
+use Rattle.s2ix_bag_pairs.specs.Change.{change_between, changed, inverse_of, joined}
+use Rattle.s2ix_bag_pairs.specs.Collection.{Collection, LimitedCollection, IsBag, IsCollection}
 use Rattle.s2ix_bag_pairs.proofs.Differences.{between_is_change, changed_between}
 use Rattle.s2ix_bag_pairs.proofs.Inverse.{changed_inverse_between, inverse_between, inverse_keeps}
 use Rattle.s2ix_bag.specs.Replay.{Numbered, after_changes, back_of, rewind_refusal, rewound, with_numbers}
-use Rattle.s2ix_edit_plan.specs.History.{History, at_cursor}
+use Rattle.s2ix_edit_plan.specs.History.{History}
 use Rattle.s2ix_edit_plan.specs.State.{State, earlier, history_of, later}
-use Rattle.s2ix_edit_plan.proofs.Edited.{length-earlier}
-use Rattle.s2ix_edit_plan.proofs.Plans.{between_changed, makes_between}
+use Rattle.s2ix_edit_plan.proofs.Edited.{held_at_cursor}
+use Rattle.s2ix_edit_plan.proofs.Plans.{between_changed}
 use Rattle.s2ix_edit.specs.Shortened.{steps_before, with_joined, without_from}
 use Rattle.s2ix_edit.specs.Standing.{first_collection}
 use Rattle.s2ix_edit.specs.Steps.{after_join, after_undo, joined_last, recorded_alone, with_held}
 use Rattle.s2ix_edit.specs.Store.{CanGoBack, IsStore}
+use Rattle.s2ix_edit.proofs.Between.{alone_few, between_taken}
 use Rattle.s2ix_edit.proofs.Journals.{changes_in, changes_reversed, taken_back_over}
 use Rattle.s2ix_edit.proofs.Undone.{front_of, undo_of_last}
 use Rattle.s2ix_edit.proofs.Shortened.{collections_at, collections_from, held_before, length_before, length_of_older, newer_back, older_back, reverse_parts}
@@ -72,7 +67,7 @@ pub last_goes_back : (s : State) (number : ℕ) → IsStore s → CanGoBack s.ba
 last_goes_back s number st =
     let place = length s.done - number in
     let Back : List (List Entry) → Type 0 = λ ess. CanGoBack s.bag ess in
-    newer_back s.bag (reverse (drop place s.done)) (reverse (take place s.done)) (subst Back (reverse_parts s.done place) st.back)
+    newer_back s.bag (reverse (drop place s.done)) (reverse (take place s.done)) (subst Back (reverse_parts s.done place) st.can_go_back)
 
 pub last_taken_back : (s : State) (number : ℕ) → IsStore s → rewind_refusal s.bag (drop (length s.done - number) s.done) ≡ None
 last_taken_back s number st = taken_back_over s.bag (drop (length s.done - number) s.done) (last_goes_back s number st)
@@ -86,40 +81,6 @@ before_is_bag bag (es ∷ older) b back =
     (made_is_bag bag (inverse_of es) b (inverse_keeps es back.0) (taken_from_none bag (inverse_of es) back.2)) back.3
 
 -- ---- a change between two bags
-
-count_small : (c : ℕ) (hs : Collection) (k : ℕ) → All (λ (h : Held). h.count ≤ c) hs → count_at hs k ≤ c
-count_small c [] k small = omega arith
-count_small c (h ∷ hs) k small =
-    ⊎_elim
-    (λ here. omega (arith, count_head h hs k here, All-head (λ (x : Held). x.count ≤ c) h hs small))
-    (λ other. omega (arith, count_tail h hs k other, count_small c hs k (All-tail (λ (x : Held). x.count ≤ c) h hs small)))
-    (cases_eq (rank_of h.pair) k)
-
-within_by : (c : ℕ) (same : Bool) (e : Entry) (es : List Entry) → e.after ≤ c → AreAfterWithin c es
-    → AreAfterWithin c (cond same es (e ∷ es))
-within_by c true e es small rest = rest
-within_by c false e es small rest = (small, rest)
-
--- its counts after are those of the second
-within_second : (c : ℕ) (old new hs : Collection) → All (λ (h : Held). h.count ≤ c) new → AreAfterWithin c (differences old new hs)
-within_second c old new [] small = tt
-within_second c old new (h ∷ hs) small =
-    within_by c (count_in old h.pair == count_in new h.pair)
-    (record { pair = h.pair; before = count_in old h.pair; after = count_in new h.pair }) (differences old new hs)
-    (count_small c new (rank_of h.pair) small) (within_second c old new hs small)
-
--- the one takes the change to the other
-pub between_taken : (bag : LimitedCollection) (new : Collection) → IsBag bag → IsBag (with_held bag new)
-    → apply_refusal bag (change_between bag.held new) ≡ None
-between_taken bag new b new_is =
-    let es = change_between bag.held new in
-    let makes = makes_between bag new es b.rises new_is.rises refl in
-    let few = new_is.few in
-    refusal_of_taken bag es (record {
-      before = before_from_no_mismatch bag.held es makes.matches;
-      within = within_second (count_limit bag.limits) bag.held new (joined bag.held new) new_is.small;
-      few = omega (arith, few, ap length makes.result);
-    })
 
 -- a bag can go back over the change from another
 back_over_between : (bag : LimitedCollection) (old : Collection) (older : List (List Entry)) → IsBag bag → IsBag (with_held bag old)
@@ -149,10 +110,6 @@ back_over_alone bag older [] some none =
 back_over_alone bag older (e ∷ es) some none =
     let Back : List (List Entry) → Type 0 = λ ess. CanGoBack bag ess in
     subst Back (sym (reverse-append older ((e ∷ es) ∷ []))) (some (omega arith))
-
-alone_few : (es : List Entry) → length (recorded_alone es) ≤ 1
-alone_few [] = omega arith
-alone_few (e ∷ es) = omega arith
 
 -- nothing is joined if no change is
 none_joined : (s : State) (number : ℕ) → IsStore s → length s.done ≤ length s.done - number → joined_last s number ≡ []
@@ -202,7 +159,7 @@ older_from s number st =
     let From : Collection → Type 0 = λ hs. CanGoBack (with_held s.bag hs) older in
     let Back : List (List Entry) → Type 0 = λ ess. CanGoBack s.bag ess in
     subst From (sym (before_last s number))
-    (older_back s.bag (reverse (drop place s.done)) older (subst Back (reverse_parts s.done place) st.back))
+    (older_back s.bag (reverse (drop place s.done)) older (subst Back (reverse_parts s.done place) st.can_go_back))
 
 pub join_keeps : (s : State) (number : ℕ) → IsStore s → IsStore (after_join s number)
 join_keeps s number st =
@@ -211,14 +168,14 @@ join_keeps s number st =
     let old_is = last_is_bag s number st in
     let older = older_from s number st in
     let From : Collection → Type 0 = λ hs. CanGoBack (with_held s.bag hs) (reverse front) in
-    let few = st.room in
+    let within_limit = st.room in
     record {
       bag = st.bag;
-      back = back_over_alone s.bag front (joined_last s number)
+      can_go_back = back_over_alone s.bag front (joined_last s number)
           (λ some. back_over_between s.bag old (reverse front) st.bag old_is older some)
           (λ none. subst From (same_between old s.bag.held old_is.rises st.bag.rises none) older);
-      on = st.on;
-      room = omega (arith, few, room_joined s number st);
+      can_go_on = st.can_go_on;
+      room = omega (arith, within_limit, room_joined s number st);
     }
 
 -- ---- the history
@@ -265,13 +222,6 @@ from_cursor s =
     collections_from s (length s.done) (omega arith)
     ∙ ap (λ ess. earlier s.bag.held (reverse ess) ++ s.bag.held ∷ later s.bag.held (reverse s.undone))
     (drop_all (length s.done) s.done (omega arith))
-
-pub held_at_cursor : (s : State) → at_cursor (history_of s) ≡ s.bag.held
-held_at_cursor s =
-    let before = earlier s.bag.held (reverse s.done) in
-    let after = later s.bag.held (reverse s.undone) in
-    let place = length-earlier s.bag.held (reverse s.done) ∙ length-reverse s.done in
-    ap (λ k. get_or (before ++ s.bag.held ∷ after) k []) (sym place) ∙ get_or-append_seam before s.bag.held after []
 
 -- a store with a change in the place of those from a place on
 abbrev replaced : State → ℕ → List Entry → State

@@ -13,17 +13,18 @@ use Rattle.s2ix_bag.proofs.Forth.{first_taken, rest_taken}
 use Rattle.s2ix_edit_plan.specs.History.{with_next}
 use Rattle.s2ix_edit_plan.specs.State.{State, history_of}
 use Rattle.s2ix_edit_plan.proofs.Plans.{between_changed}
+use Rattle.s2ix_edit_plan.proofs.Edited.{held_at_cursor}
 use Rattle.s2ix_edit.specs.Given.{after_apply, given_refusal, record_refusal, with_changes}
 use Rattle.s2ix_edit.specs.Joining.{CanFollow, DoesAll, after_all}
 use Rattle.s2ix_edit.specs.Steps.{after_join, after_record, joined_last, recorded_alone}
 use Rattle.s2ix_edit.specs.Store.{CanGoBack, IsStore}
 use Rattle.s2ix_edit.proofs.Along.{all_back_again, change_back}
-use Rattle.s2ix_edit.proofs.Applied.{rise_back}
 use Rattle.s2ix_edit.proofs.Histories.{neither_refused}
-use Rattle.s2ix_edit.proofs.Joined.{before_last, held_at_cursor, joined_by_rewind, last_goes_back, last_is_bag, last_listed, last_taken_back, rewound_before}
+use Rattle.s2ix_edit.proofs.Joined.{before_last, joined_by_rewind, last_goes_back, last_is_bag, last_listed, last_taken_back, rewound_before}
 use Rattle.s2ix_edit.proofs.Offered.{history_made}
 use Rattle.s2ix_edit.proofs.Shortened.{held_before}
 use Rattle.s2ix_bag_pairs.specs.Limits.{changes_limit}
+use Rattle.s2ix_edit.proofs.Standing.{rises_back}
 
 -- ---- changes that are done one after the other
 
@@ -64,7 +65,7 @@ does_last : (s : State) (number : ℕ) (es : List Entry) → IsStore s → DoesA
     → es ≡ joined_last s number
 does_last s number es st does =
     let changes = drop (length s.done - number) s.done in
-    let rise = all_back_again IsChangeList changes (rise_back s.bag (reverse changes) (last_goes_back s number st)) in
+    let rise = all_back_again IsChangeList changes (rises_back s.bag (reverse changes) (last_goes_back s number st)) in
     let before = rewound s.bag changes in
     let home = replay_of_rewind s.bag changes st.bag rise (last_taken_back s number st) in
     let Rises : Collection → Type 0 = λ hs. IsCollection hs in
@@ -98,17 +99,17 @@ last_some done listed number last read many some within =
 -- it is joined to itself
 alone_joined : (s : State) (number : ℕ) (last : List (List Entry)) → IsStore s → drop (length s.done - number) s.done ≡ last
     → length last ≤ 1 → (joined_last s number ≡ get_or last 0 []) × (recorded_alone (joined_last s number) ≡ last)
-alone_joined s number [] st is few =
+alone_joined s number [] st is within_limit =
     let hs = s.bag.held in
     let same = before_last s number ∙ ap (λ ess. held_before hs (reverse ess)) is in
     let none = ap (λ old. change_between old hs) same ∙ between_changed s.bag [] st.bag.rises tt refl in
     (none, ap recorded_alone none)
-alone_joined s number (x ∷ y ∷ rest) st is few = absurd (omega (arith, few))
-alone_joined s number ([] ∷ []) st is few =
+alone_joined s number (x ∷ y ∷ rest) st is within_limit = absurd (omega (arith, within_limit))
+alone_joined s number ([] ∷ []) st is within_limit =
     let Back : List (List Entry) → Type 0 = λ ess. CanGoBack s.bag (reverse ess) in
     let back = subst Back is (last_goes_back s number st) in
     absurd (omega (arith, back.1))
-alone_joined s number ((e ∷ es) ∷ []) st is few =
+alone_joined s number ((e ∷ es) ∷ []) st is within_limit =
     let Back : List (List Entry) → Type 0 = λ ess. CanGoBack s.bag (reverse ess) in
     let back = subst Back is (last_goes_back s number st) in
     let same = before_last s number ∙ ap (λ ess. held_before s.bag.held (reverse ess)) is in
@@ -117,9 +118,9 @@ alone_joined s number ((e ∷ es) ∷ []) st is few =
 
 -- and takes its own place
 pub few_stay : (s : State) (number : ℕ) → IsStore s → number ≤ 1 → number ≤ length s.done → after_join s number ≡ s
-few_stay s number st few within =
+few_stay s number st within_limit within =
     let place = length s.done - number in
-    let alone = alone_joined s number (drop place s.done) st refl (omega (arith, few, within, length-drop place s.done)) in
+    let alone = alone_joined s number (drop place s.done) st refl (omega (arith, within_limit, within, length-drop place s.done)) in
     ap (λ (ess : List (List Entry)).
     let t : State = record { bag = s.bag; done = ess; undone = s.undone; faces_rebuilt = s.faces_rebuilt } in t)
     (ap (λ ess. take place s.done ++ ess) alone.1 ∙ take-append-drop place s.done)
@@ -127,9 +128,9 @@ few_stay s number st few within =
 pub few_sized : (s : State) (listed : List (List Entry)) (many number n : ℕ) → IsStore s → listed ≡ s.done → many ≡ length s.done
     → number ≤ 1 → number ≤ length s.done
     → n ≡ length (get_or (take (length listed - (many - number)) (drop (many - number) listed)) 0 []) → n ≡ length (joined_last s number)
-few_sized s listed many number n st read long few within is =
+few_sized s listed many number n st read long within_limit within is =
     let place = length s.done - number in
-    let alone = alone_joined s number (drop place s.done) st refl (omega (arith, few, within, length-drop place s.done)) in
+    let alone = alone_joined s number (drop place s.done) st refl (omega (arith, within_limit, within, length-drop place s.done)) in
     is
     ∙ ap (λ ess. length (get_or ess 0 []))
     (ap₂ (λ (ess : List (List Entry)) (k : ℕ). take (length ess - (k - number)) (drop (k - number) ess)) read long

@@ -72,7 +72,7 @@ pub taken_back_over : (bag : LimitedCollection) (changes : List (List Entry)) �
 taken_back_over bag changes back = goes_back bag (reverse (with_numbers changes)) (back_numbered bag changes back)
 
 pub done_is_taken_back : (s : State) → IsStore s → rewind_refusal s.bag s.done ≡ None
-done_is_taken_back s st = taken_back_over s.bag s.done st.back
+done_is_taken_back s st = taken_back_over s.bag s.done st.can_go_back
 
 same_first : (hs first : Collection) (found : Option Collection) → found ≡ Some hs → found ≡ Some first → hs ≡ first
 same_first hs first found is so = let e : Some hs ≡ Some first = sym is ∙ so in cc
@@ -100,7 +100,7 @@ pub done_leads : (s : State) (first : Collection) → IsStore s → slice_get (h
     → (replay_refusal (with_held s.bag first) s.done ≡ None) × (replayed (with_held s.bag first) s.done ≡ s.bag)
 done_leads s first st is =
     let cs = with_numbers s.done in
-    let changes = turned cs (goes_over_changes s.bag (reverse cs) (back_numbered s.bag s.done st.back)) in
+    let changes = turned cs (goes_over_changes s.bag (reverse cs) (back_numbered s.bag s.done st.can_go_back)) in
     let home = there_and_back s.bag (way_back cs) st.bag (back_are_changes cs changes) (done_is_taken_back s st) in
     let start = done_leads_back s first st is in (
       ap (λ b. replay_refusal b s.done) (sym start) ∙ ap (first_refusal (rewound s.bag s.done)) (sym (way_back-way_back cs)) ∙ home.taken,

@@ -83,7 +83,7 @@ taken_of_entries bag es matches none =
     refusal_of_taken bag es (record {
       before = before_from_no_mismatch bag.held es matches;
       within = within_from_none (count_limit bag.limits) es two.0;
-      few = ltb-false _ _ two.1;
+      within_limit = ltb-false _ _ two.1;
     })
 
 pub edit_keeps : (s : State) (edit : Edit) → IsStore s → edit_refusal s edit ≡ None → IsStore (after_edit s edit)
@@ -123,4 +123,4 @@ redo_keeps s st some =
     (made_is_bag s.bag es st.bag on.0 (taken_from_none s.bag es on.2)))
 
 pub forget_keeps : (s : State) → IsStore s → IsStore (after_forget s)
-forget_keeps s st = record { bag = st.bag; back = tt; on = tt; room = omega arith }
+forget_keeps s st = record { bag = st.bag; can_go_back = tt; can_go_on = tt; room = omega arith }

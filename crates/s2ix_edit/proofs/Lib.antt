@@ -1,6 +1,7 @@
 pub mod Along
 mod Answered
 mod Applied
+pub mod Between
 pub mod Followed
 mod HeldLabels
 mod Histories

@@ -28,9 +28,9 @@ never_high s edit st small = λ is.
 
 never_many : (s : State) (edit : Edit) → IsStore s → length (edited_by s.done edit s.bag.held) ≤ length s.bag.held
     → edit_refusal s edit ≢ Some TooManyPairs
-never_many s edit st few = λ is.
-    let most = st.bag.few in
-    absurd (omega (arith, few, most, many_from_refusal s edit is, ap length (edited_held s edit (stand s st))))
+never_many s edit st within_limit = λ is.
+    let most = st.bag.within_limit in
+    absurd (omega (arith, within_limit, most, many_from_refusal s edit is, ap length (edited_held s edit (stand s st))))
 
 pub remove_passes_none : (s : State) (pair : Pair) (copies : ℕ) → IsStore s
     → (edit_refusal s (Remove pair copies) ≢ Some TooManyCopies) × (edit_refusal s (Remove pair copies) ≢ Some TooManyPairs)

@@ -25,8 +25,8 @@ use Rattle.s2ix_edit_plan.specs.State.{State, history_of, later}
 use Rattle.s2ix_edit_plan.proofs.Edited.{edited_held}
 use Rattle.s2ix_edit_plan.proofs.Plans.{between_changed}
 use Rattle.s2ix_edit_plan.proofs.Removals.{held_from_none, rows_taken, without_rows_keeps}
-use Rattle.s2ix_edit.specs.declared.history_error.RecordError.{RecordError}
-use Rattle.s2ix_edit.specs.declared.history_error.RecordError.TheVariants as alone
+use Rattle.s2ix_edit.specs.declared.record_error.RecordError.{RecordError}
+use Rattle.s2ix_edit.specs.declared.record_error.RecordError.TheVariants as alone
 use Rattle.s2ix_edit.specs.Given.{after_apply, given_refusal, record_refusal}
 use Rattle.s2ix_edit.specs.OneChange.{IsRecordRefusal, change_refusal, record_error}
 use Rattle.s2ix_edit.specs.Steps.{after_edit, after_record, after_removal, after_undo, faces_of, with_held}
@@ -109,9 +109,9 @@ one_given s es =
           (refusal_after s.bag (record { number = 1; change = es }) [] parts.2),
       λ accepted.
           let both = neither_refused first (replay_refusal s.bag (es ∷ [])) accepted in
-          let few = recordable_are_few room (es ∷ []) both.0 in
+          let within_limit = recordable_are_few room (es ∷ []) both.0 in
           let some = All-head HasEntries es [] (recordable_have_entries room (es ∷ []) both.0) in
-          refused_by_bag s es (omega (arith, few)) some
+          refused_by_bag s es (omega (arith, within_limit)) some
           ∙ ap (option_map record_error) (first_taken s.bag (record { number = 1; change = es }) [] both.1),
     )
 

@@ -40,7 +40,7 @@ recorded bag es b rises some taken =
     record {
       rises = rises;
       some = omega (arith, some);
-      few = omega (arith, length_between bag.held (changed bag.held es), between, b.few, takes.few);
+      within_limit = omega (arith, length_between bag.held (changed bag.held es), between, b.within_limit, takes.within_limit);
       small_before = small_before (count_limit bag.limits) es back.within;
       small_after = small_after (count_limit bag.limits) es takes.within;
     }
@@ -63,10 +63,10 @@ recorded_back bag (es ∷ older) b back =
     (recorded_back prev older prev_is back.3)
 
 pub done_recorded : (s : State) → IsStore s → All (IsRecorded s.bag.limits) s.done
-done_recorded s st = all_back_again (IsRecorded s.bag.limits) s.done (recorded_back s.bag (reverse s.done) st.bag st.back)
+done_recorded s st = all_back_again (IsRecorded s.bag.limits) s.done (recorded_back s.bag (reverse s.done) st.bag st.can_go_back)
 
 pub undone_recorded : (s : State) → IsStore s → All (IsRecorded s.bag.limits) s.undone
-undone_recorded s st = all_back_again (IsRecorded s.bag.limits) s.undone (recorded_on s.bag (reverse s.undone) st.bag st.on)
+undone_recorded s st = all_back_again (IsRecorded s.bag.limits) s.undone (recorded_on s.bag (reverse s.undone) st.bag st.can_go_on)
 
 -- what holds of a list of changes of any store holds of the one that is read from this store
 pub of_listed : (P : State → List (List Entry) → Type 0) (changes : State → List (List Entry)) → ((s : State) → IsStore s → P s (changes s))
@@ -81,9 +81,9 @@ of_listed P changes all inside now listed st is read =
 pub recorded_within_widest : (limits : Limits) (es : List Entry) → IsRecorded limits es
     → (length es ≤ 2000000) × All (λ e. e.before ≤ 4294967295) es × All (λ e. e.after ≤ 4294967295) es
 recorded_within_widest limits es is =
-    let few : pairs_limit limits ≤ 1000000 = limits.in_range.1 in
+    let within_limit : pairs_limit limits ≤ 1000000 = limits.in_range.1 in
     let small : count_limit limits ≤ 4294967295 = limits.in_range.3 in (
-      omega (arith, few, is.few),
+      omega (arith, within_limit, is.within_limit),
       All-weaker (λ (e : Entry). e.before ≤ count_limit limits) (λ (e : Entry). e.before ≤ 4294967295)
           (λ e low. omega (arith, small, low)) es is.small_before,
       All-weaker (λ (e : Entry). e.after ≤ count_limit limits) (λ (e : Entry). e.after ≤ 4294967295) (λ e low. omega (arith, small, low))

@@ -22,7 +22,7 @@ use Rattle.s2ix_edit_plan.proofs.Rows.{with_rows_keeps}
 use Rattle.s2ix_edit.specs.Steps.{after_removal, after_rows, with_held}
 use Rattle.s2ix_edit.specs.Store.{IsStore}
 use Rattle.s2ix_edit.proofs.AtCursor.{stands_recorded}
-use Rattle.s2ix_edit.proofs.Joined.{between_taken}
+use Rattle.s2ix_edit.proofs.Between.{between_taken}
 use Rattle.s2ix_edit.proofs.Kept.{taken_of_entries}
 use Rattle.s2ix_edit.proofs.Offered.{removal_state}
 use Rattle.s2ix_edit.proofs.Rows.{refusal_of_entries, rows_state}
@@ -54,11 +54,11 @@ rows_keep s rows st none =
 fewer_is_bag : (bag : LimitedCollection) (row : Held) → IsBag bag → IsBag (with_held bag (with_fewer row.pair row.count bag.held))
 fewer_is_bag bag row b =
     let count = count_in bag.held row.pair - row.count in
-    let few = no_more_set 0 row.pair count bag.held b.rises (λ none. omega (arith, none)) in
+    let within_limit = no_more_set 0 row.pair count bag.held b.rises (λ none. omega (arith, none)) in
     let small : count ≤ count_limit bag.limits = omega (arith, bag_small bag (rank_of row.pair) b) in
     record {
       rises = set_keeps row.pair count bag.held b.rises;
-      few = omega (arith, few, b.few);
+      within_limit = omega (arith, within_limit, b.within_limit);
       small = small_changed (count_limit bag.limits) bag.held (record { pair = row.pair; before = 0; after = count } ∷ [])
           (small, tt) b.small;
     }

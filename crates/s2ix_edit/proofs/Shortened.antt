@@ -96,12 +96,12 @@ pub forget_older_keeps : (s : State) (newest : ℕ) → IsStore s → IsStore (a
 forget_older_keeps s newest st =
     let place = length s.done - newest in
     let Back : List (List Entry) → Type 0 = λ ess. CanGoBack s.bag ess in
-    let few = st.room in
+    let within_limit = st.room in
     record {
       bag = st.bag;
-      back = newer_back s.bag (reverse (drop place s.done)) (reverse (take place s.done)) (subst Back (reverse_parts s.done place) st.back);
-      on = st.on;
-      room = omega (arith, few, length-drop place s.done);
+      can_go_back = newer_back s.bag (reverse (drop place s.done)) (reverse (take place s.done)) (subst Back (reverse_parts s.done place) st.can_go_back);
+      can_go_on = st.can_go_on;
+      room = omega (arith, within_limit, length-drop place s.done);
     }
 
 pub first_after_forget_older : (s : State) (newest : ℕ)
@@ -114,8 +114,8 @@ first_after_forget_older s newest =
     ∙ ap (λ n. get_or (history_of s).collections n []) start
 
 pub none_forgotten : (s : State) (newest : ℕ) → length s.done ≤ newest → after_forget_older s newest ≡ s
-none_forgotten s newest few =
-    let none : length s.done - newest ≡ 0 = omega (arith, few) in
+none_forgotten s newest within_limit =
+    let none : length s.done - newest ≡ 0 = omega (arith, within_limit) in
     ap (λ n.
     let t : State = record { bag = s.bag; done = drop n s.done; undone = s.undone; faces_rebuilt = s.faces_rebuilt } in t)
     none

@@ -80,7 +80,7 @@ sum_back bag (es ∷ older) rest pair b back =
 pub counts_are_sums : (s : State) (pair : Pair) → IsStore s
     → pos (count_in s.bag.held pair) ≡ pos (count_in (first_collection s) pair) +ℤ gain_along s.done pair
 counts_are_sums s pair st =
-    sum_back s.bag (reverse s.done) (later s.bag.held (reverse s.undone)) pair st.bag st.back
+    sum_back s.bag (reverse s.done) (later s.bag.held (reverse s.undone)) pair st.bag st.can_go_back
     ∙ ap (λ ess. pos (count_in (first_collection s) pair) +ℤ gain_along ess pair) (reverse-reverse s.done)
 
 -- ---- one change left out
@@ -105,13 +105,13 @@ left_out (suc place) ess es pair found = left_out_at place ess es pair found
 
 -- ---- an accepted revert
 
-rises_back : (bag : LimitedCollection) (ess : List (List Entry)) → CanGoBack bag ess → All IsChangeList ess
+pub rises_back : (bag : LimitedCollection) (ess : List (List Entry)) → CanGoBack bag ess → All IsChangeList ess
 rises_back bag [] back = All-nil IsChangeList
 rises_back bag (es ∷ older) back =
     All-cons IsChangeList es older back.0 (rises_back (with_held bag (changed bag.held (inverse_of es))) older back.3)
 
 pub changes_rise : (s : State) → IsStore s → All IsChangeList s.done
-changes_rise s st = all_back_again IsChangeList s.done (rises_back s.bag (reverse s.done) st.back)
+changes_rise s st = all_back_again IsChangeList s.done (rises_back s.bag (reverse s.done) st.can_go_back)
 
 pub numbered_holds : (P : List Entry → Type 0) (number : ℕ) (ess : List (List Entry)) (es : List Entry) → All P ess
     → numbered number ess ≡ Some es → P es

@@ -7,8 +7,8 @@ use Rattle.s2ix_bag_lists.specs.declared.errors.ApplyError.TheVariants as apply
 use Rattle.s2ix_bag_pairs.specs.declared.pair.Entry.{Entry}
 use Rattle.s2ix_bag_pairs.specs.Limits.{changes_limit}
 use Rattle.s2ix_edit_plan.specs.State.{State}
-use Rattle.s2ix_edit.specs.declared.history_error.RecordError.{RecordError}
-use Rattle.s2ix_edit.specs.declared.history_error.RecordError.TheVariants.{JournalFull, NoChange, Mismatch, TooManyCopies, TooManyPairs, OutOfMemory}
+use Rattle.s2ix_edit.specs.declared.record_error.RecordError.{RecordError}
+use Rattle.s2ix_edit.specs.declared.record_error.RecordError.TheVariants.{JournalFull, NoChange, Mismatch, TooManyCopies, TooManyPairs, OutOfMemory}
 
 -- the error that tells what a bag tells of a change
 abbrev pub record_error : ApplyError → RecordError

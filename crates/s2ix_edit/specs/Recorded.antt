@@ -10,6 +10,6 @@ use Rattle.s2ix_bag_pairs.specs.Limits.{count_limit, pairs_limit}
 pub record IsRecorded (limits : Limits) (es : List Entry) : Type 0 where
   pub rises : IsChangeList es
   pub some : 1 ≤ length es
-  pub few : length es ≤ 2 * pairs_limit limits
+  pub within_limit : length es ≤ 2 * pairs_limit limits
   pub small_before : All (λ e. e.before ≤ count_limit limits) es
   pub small_after : All (λ e. e.after ≤ count_limit limits) es

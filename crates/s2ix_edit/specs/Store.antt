@@ -29,6 +29,6 @@ CanGoOn bag (es ∷ rest) =
 -- to the next
 pub record IsStore (s : State) : Type 0 where
   pub bag : IsBag s.bag
-  pub back : CanGoBack s.bag (reverse s.done)
-  pub on : CanGoOn s.bag (reverse s.undone)
+  pub can_go_back : CanGoBack s.bag (reverse s.done)
+  pub can_go_on : CanGoOn s.bag (reverse s.undone)
   pub room : length s.done + length s.undone ≤ changes_limit s.bag.limits

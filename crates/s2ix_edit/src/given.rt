@@ -67,7 +67,7 @@ pub(crate) fn replace_from(changes: &mut Vec<Change>, place: usize, joined: Chan
 }
 
 // Appends changes to a list that has room for them.
-pub(crate) fn append_within(to: &mut Vec<Change>, mut changes: Vec<Change>)
+pub(crate) fn append_reserved(to: &mut Vec<Change>, mut changes: Vec<Change>)
     requires room { vec_len to.old + vec_len changes ≤ vec_capacity to.old }
     ensures { to.new.items ≡ to.old.items ++ changes.items }
 {

@@ -1,7 +1,6 @@
-//! Why a store takes no history and does no given changes, doesn't do one given change, or doesn't join changes.
+//! Why a store takes no history, or does no given changes.
 use s2id_core::OutOfMemory;
 use s2ix_bag::ReplayError;
-use s2ix_bag_lists::ApplyError;
 use thiserror::Error;
 
 /// Why a store didn't take a list of changes, as its history or as what is to be done. Changes are numbered in the list, from 1.
@@ -53,77 +52,5 @@ impl From<ReplayError> for HistoryError {
             ReplayError::TooManyPairs { change } => HistoryError::TooManyPairs { change },
             ReplayError::OutOfMemory => HistoryError::OutOfMemory,
         }
-    }
-}
-
-/// Why a store didn't do a change that it was given. If several refusals are due, the first of this list is returned.
-#[derive(Clone, Copy, Debug, PartialEq, Eq, Error)]
-pub enum RecordError {
-    /// As many changes can be undone as the limit allows.
-    #[error("the journal is full")]
-    JournalFull,
-    /// The change has no entries.
-    #[error("nothing would change")]
-    NoChange,
-    /// The entry at this place, counted from 0, is the first whose count before is not the bag's.
-    #[error("entry {0} has another count before than the bag")]
-    Mismatch(usize),
-    /// A count after is above the limit.
-    #[error("a count above the limit")]
-    TooManyCopies,
-    /// The change would make more distinct pairs than the limit.
-    #[error("more distinct pairs than the limit")]
-    TooManyPairs,
-    /// A growth was refused.
-    #[error("out of memory")]
-    OutOfMemory,
-}
-
-impl From<OutOfMemory> for RecordError {
-    ghost use Rattle.std.specs.Prelude.{◌≡◌};
-    ghost use Rattle.s2ix_edit.specs.declared.history_error.RecordError.TheVariants.{OutOfMemory};
-
-    ghost from_gives = { λ _ error. error ≡ OutOfMemory };
-
-    fn from(_: OutOfMemory) -> Self {
-        RecordError::OutOfMemory
-    }
-}
-
-impl From<ApplyError> for RecordError {
-    ghost use Rattle.std.specs.Prelude.{◌≡◌};
-    ghost use Rattle.s2ix_edit.specs.OneChange.{record_error};
-
-    ghost from_gives = { λ reason error. error ≡ record_error reason };
-
-    fn from(reason: ApplyError) -> Self {
-        match reason {
-            ApplyError::Mismatch(place) => RecordError::Mismatch(place),
-            ApplyError::TooManyCopies => RecordError::TooManyCopies,
-            ApplyError::TooManyPairs => RecordError::TooManyPairs,
-            ApplyError::OutOfMemory => RecordError::OutOfMemory,
-        }
-    }
-}
-
-/// Why changes weren't joined.
-#[derive(Clone, Copy, Debug, PartialEq, Eq, Error)]
-pub enum JoinError {
-    /// Fewer changes can be undone than are to be joined.
-    #[error("too few changes to join")]
-    TooFewChanges,
-    /// Memory was refused.
-    #[error("out of memory")]
-    OutOfMemory,
-}
-
-impl From<OutOfMemory> for JoinError {
-    ghost use Rattle.std.specs.Prelude.{◌≡◌};
-    ghost use Rattle.s2ix_edit.specs.declared.history_error.JoinError.TheVariants.{OutOfMemory};
-
-    ghost from_gives = { λ _ error. error ≡ OutOfMemory };
-
-    fn from(_: OutOfMemory) -> Self {
-        JoinError::OutOfMemory
     }
 }

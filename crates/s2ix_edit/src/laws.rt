@@ -21,8 +21,8 @@ ghost use Rattle.s2ix_edit_plan.specs.Rows.{rows_change, rows_refusal};
 ghost use Rattle.s2ix_edit_plan.specs.Refusals.{edit_refusal, goes_below_zero, has_count_above, lacks_change, reverts};
 ghost use Rattle.s2ix_edit.specs.declared.held_labels.HeldLabel.{HeldLabel};
 ghost use Rattle.s2ix_edit.specs.declared.history_error.HistoryError.{HistoryError};
-ghost use Rattle.s2ix_edit.specs.declared.history_error.JoinError.{JoinError};
-ghost use Rattle.s2ix_edit.specs.declared.history_error.RecordError.{RecordError};
+ghost use Rattle.s2ix_edit.specs.declared.join_error.JoinError.{JoinError};
+ghost use Rattle.s2ix_edit.specs.declared.record_error.RecordError.{RecordError};
 ghost use Rattle.s2ix_edit.specs.Given.{after_apply, given_refusal, history_refusal, led_by, with_changes};
 ghost use Rattle.s2ix_edit.specs.OneChange.{change_refusal};
 ghost use Rattle.s2ix_edit.specs.Recorded.{IsRecorded};
@@ -33,7 +33,9 @@ ghost use Rattle.s2ix_edit.specs.Store.{IsStore};
 ghost use Rattle.s2ix_table_walk.specs.Table.{Range, IsRangeTable};
 
 use crate::held_labels::HeldLabel;
-use crate::history_error::{HistoryError, JoinError, RecordError};
+use crate::history_error::HistoryError;
+use crate::join_error::JoinError;
+use crate::record_error::RecordError;
 
 /// Two errors are equal exactly if they are the same.
 pub fn equal_errors_are_one()

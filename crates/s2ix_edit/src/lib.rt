@@ -13,14 +13,18 @@
 mod given;
 mod held_labels;
 mod history_error;
+mod join_error;
 mod joining;
 pub mod laws;
+mod record_error;
 mod steps;
 mod store;
 mod store_table;
 
 pub use held_labels::HeldLabel;
-pub use history_error::{HistoryError, JoinError, RecordError};
+pub use history_error::HistoryError;
+pub use join_error::JoinError;
+pub use record_error::RecordError;
 pub use s2ix_edit_plan::{
     Edit, EditError, RedoError, RemoveError, UndoError, plan, plan_removals, plan_rows, region_of,
 };

@@ -27,10 +27,12 @@ ghost use Rattle.s2ix_edit.specs.Store.{CanGoBack, CanGoOn, HasRoom, IsStore};
 ghost use Rattle.s2ix_table_walk.specs.LabelList.{label_list};
 ghost use Rattle.s2ix_table_walk.specs.Table.{IsRangeTable};
 
-use crate::given::{append_within, replace_from, test_history, test_recordable};
+use crate::given::{append_reserved, replace_from, test_history, test_recordable};
 use crate::held_labels::{HeldLabel, held_labels_of};
-use crate::history_error::{HistoryError, JoinError, RecordError};
+use crate::history_error::HistoryError;
+use crate::join_error::JoinError;
 use crate::joining::{first_size, joined_change};
+use crate::record_error::RecordError;
 use crate::steps::{
     apply_planned, apply_recorded, keep_newest, make_room, rebuild_for, shift_last,
 };
@@ -233,8 +235,8 @@ impl Store {
             ↔ (HasRoom self.old × (copies_in rows.now ≡ 0)) }
         ensures unchanged { OnErr result (self.new ≡ self.old) }
     {
-        let most = self.bag.limits().changes() as usize;
-        if self.done.len() >= most {
+        let changes_limit = self.bag.limits().changes() as usize;
+        if self.done.len() >= changes_limit {
             Err(EditError::JournalFull)
         } else {
             let gains = plan_rows(self.alloc, &self.bag, rows)?;
@@ -258,8 +260,8 @@ impl Store {
         ensures refused { IfErr result (λ error. IsRemoveRefusal error (removal_refusal self.old rows.now)) }
         ensures unchanged { OnErr result (self.new ≡ self.old) }
     {
-        let most = self.bag.limits().changes() as usize;
-        if self.done.len() >= most {
+        let changes_limit = self.bag.limits().changes() as usize;
+        if self.done.len() >= changes_limit {
             return Err(RemoveError::JournalFull);
         }
         let losses = plan_removals(self.alloc, &self.bag, rows)?;
@@ -280,8 +282,8 @@ impl Store {
         ensures refused { IfErr result (λ error. IsRecordRefusal error (change_refusal self.old change)) }
         ensures unchanged { OnErr result (self.new ≡ self.old) }
     {
-        let most = self.bag.limits().changes() as usize;
-        if self.done.len() >= most {
+        let changes_limit = self.bag.limits().changes() as usize;
+        if self.done.len() >= changes_limit {
             return Err(RecordError::JournalFull);
         }
         if change.entries().is_empty() {
@@ -440,7 +442,7 @@ impl Store {
         let whole = joined_change(self.alloc, changes.as_slice())?;
         make_room(&mut self.done, changes.len())?;
         rebuild_for(self.alloc, &mut self.table, &bag, &whole)?;
-        append_within(&mut self.done, changes);
+        append_reserved(&mut self.done, changes);
         self.undone.clear();
         self.bag = bag;
         self.faces_rebuilt = changed_face_count(&whole);
@@ -484,8 +486,8 @@ impl Store {
         &self.table
     }
 
-    /// On how many faces, 0 to 6, the last accepted edit, list of rows, undo, redo, `record` or `apply` changed pairs. It is 0 before the first
-    /// step, and a refused step leaves it as it was. O(1).
+    /// On how many faces, 0 to 6, the last accepted edit, list of rows, undo, redo, `record` or `apply` changed pairs. The table makes anew
+    /// only what the change touches on each of them. The number is 0 before the first step, and a refused step leaves it as it was. O(1).
     pub fn faces_rebuilt(&self) -> u8
         ensures { result ≡ self.now.faces_rebuilt }
     {
@@ -512,7 +514,7 @@ impl Store {
         ensures copies { IfOk result (λ list.
             All (λ total. total.copies ≡ copies_in (held_of total.label self.now.bag.held)) list.items) }
         ensures list { IfOk result (λ list. list.items ≡ held_labels self.now.bag.held) }
-        ensures few { IfOk result (λ list. All (λ total. total.pairs ≤ pairs_limit self.now.bag.limits) list.items) }
+        ensures within_limit { IfOk result (λ list. All (λ total. total.pairs ≤ pairs_limit self.now.bag.limits) list.items) }
         ensures memory { IsErr result → self.now.bag.held ≢ [] }
     {
         held_labels_of(self.alloc, &self.bag)
@@ -525,7 +527,7 @@ impl Store {
         ensures led { CanGoBack self.now.bag (reverse result.now) }
         ensures stands { IsStore self.now }
         ensures within { All (IsRecorded self.now.bag.limits) result.now }
-        ensures few { length result.now ≤ changes_limit self.now.bag.limits }
+        ensures within_limit { length result.now ≤ changes_limit self.now.bag.limits }
     {
         self.done.as_slice()
     }
@@ -536,7 +538,7 @@ impl Store {
         ensures undone { result.now ≡ self.now.undone }
         ensures led { CanGoOn self.now.bag (reverse result.now) }
         ensures within { All (IsRecorded self.now.bag.limits) result.now }
-        ensures few { length result.now ≤ changes_limit self.now.bag.limits }
+        ensures within_limit { length result.now ≤ changes_limit self.now.bag.limits }
     {
         self.undone.as_slice()
     }

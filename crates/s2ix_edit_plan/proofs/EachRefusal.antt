@@ -284,6 +284,6 @@ pub revert_taken : (s : State) (number : ℕ) → nat_le (changes_limit s.bag.li
     → (length (change_of s (Revert number)) == 0) ≡ false
     → has_count_above (count_limit s.bag.limits) (edited (history_of s) (Revert number)) ≡ false
     → nat_lt (pairs_limit s.bag.limits) (length (edited (history_of s) (Revert number))) ≡ false → edit_refusal s (Revert number) ≡ None
-revert_taken s number room there stays differs low few =
+revert_taken s number room there stays differs low within_limit =
     cond-false _ _ _ room ∙ cond-false _ _ _ there ∙ cond-false _ _ _ stays ∙ cond-false _ _ _ differs ∙ cond-false _ _ _ low
-    ∙ cond-false _ _ _ few
+    ∙ cond-false _ _ _ within_limit

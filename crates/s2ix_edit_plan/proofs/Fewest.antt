@@ -5,9 +5,8 @@ use Rattle.std.proofs.lemmas.List.Filters.{length-filter_both}
 use Rattle.s2id_core.specs.declared.cell_id.CellId.{CellId}
 use Rattle.s2id_core.specs.CellId.{raw_of, path_of}
 use Rattle.s2id_core.specs.Leaves.{IsLeafOf, IsWithin}
-use Rattle.s2id_core.specs.Path.{Path, IsPath, first_leaf}
+use Rattle.s2id_core.specs.Path.{Path, first_leaf}
 use Rattle.s2id_core.proofs.Cells.{same_cell}
-use Rattle.s2id_core.proofs.Numbers.{path_of_cell}
 use Rattle.s2id_core.proofs.Spans.{leaf_of_first, leaves_iff_within, nested_from_overlap}
 use Rattle.s2id_union.specs.NormalForm.{normal_form}
 use Rattle.s2id_union.specs.Region.{IsNormal}
@@ -15,6 +14,7 @@ use Rattle.s2id_union.proofs.Largest.{kept}
 use Rattle.s2id_core.proofs.Lists.{at_head, head_pairs, in_tail, tail_pairs}
 use Rattle.s2id_union.proofs.NormalForm.{form_normal, form_same_region}
 use Rattle.s2id_union.proofs.Unique.{Rises, around_from_all, in_region_of}
+use Rattle.s2ix_edit_plan.proofs.Beside.{pathed}
 
 -- ---- lists of which one has a cell of its own for each of the other
 
@@ -60,9 +60,6 @@ one_each R (n ∷ ns) ds rises each one =
     omega (arith, fewer, rest)
 
 -- ---- normal lists
-
-pathed : (c : CellId) → IsPath (path_of c)
-pathed c = path_of_cell (raw_of c) c.valid
 
 -- two cells of a normal list that share a leaf are one
 one_around : (ns : List CellId) (n m : CellId) (leaf : Path) → IsNormal ns → Contains ns n → Contains ns m → IsLeafOf leaf (path_of n)

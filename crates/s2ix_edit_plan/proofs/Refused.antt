@@ -35,7 +35,7 @@ unfoldable pub first_of_three : Bool → Bool → Bool → Option EditError
 first_of_three same high many =
     cond same (Some NoChange) (cond high (Some TooManyCopies) (cond many (Some TooManyPairs) None))
 
-is_high : LimitedCollection → Collection → Bool
+unfoldable pub is_high : LimitedCollection → Collection → Bool
 is_high bag hs = has_count_above (count_limit bag.limits) hs
 
 later_refusal : (bag : LimitedCollection) (changes : List (List Entry)) (edit : Edit) → lacks_label edit bag.held ≡ false
@@ -119,7 +119,7 @@ longer_differs : (bag : LimitedCollection) (new : Collection) → IsBag bag → 
     → (length (change_between bag.held new) == 0) ≡ false
 longer_differs bag new b is many =
     ⊎_elim
-    (λ none. let few = b.few in absurd (omega (arith, many, few, ap length (same_where_none bag new b is none))))
+    (λ none. let within_limit = b.within_limit in absurd (omega (arith, many, within_limit, ap length (same_where_none bag new b is none))))
     (λ some. some)
     (cases_Bool (length (change_between bag.held new) == 0))
 

@@ -278,8 +278,8 @@ pub never_many : (bag : LimitedCollection) (rows : List Held) (es : List Entry) 
 never_many bag rows es b plans refused =
     let told = pairs_by (is_high_back bag es) (is_many_back bag es) (first_below_zero bag.held es) (refused_is bag es ∙ refused) in
     let is = ap length (back_is bag rows es b plans (above_from_none bag.held es told.0)) in
-    let few : length (taken_back bag.held es) ≤ pairs_limit bag.limits = omega (arith, is, rows_few rows bag.held b.rises, b.few) in
-    let clash : true ≡ false = sym told.2 ∙ many_back_is bag es ∙ le-ltb _ _ few in
+    let within_limit : length (taken_back bag.held es) ≤ pairs_limit bag.limits = omega (arith, is, rows_few rows bag.held b.rises, b.within_limit) in
+    let clash : true ≡ false = sym told.2 ∙ many_back_is bag es ∙ le-ltb _ _ within_limit in
     cc
 
 -- rows with more copies of a pair than any bag may hold aren't all held

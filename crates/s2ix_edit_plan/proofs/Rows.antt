@@ -25,7 +25,7 @@ use Rattle.s2ix_edit_plan.specs.Refusals.{has_count_above, has_count_above_every
 use Rattle.s2ix_edit_plan.specs.Rows.{IsRowsError, PlansRows, copies_at, gain_of, gains_from, gains_of, rows_change, rows_plan_refusal, with_rows}
 use Rattle.s2ix_edit_plan.proofs.Above.{above_from_count, above_own, any_above_changed}
 use Rattle.s2ix_edit_plan.proofs.Plans.{an_entry, between_changed, no_entry}
-use Rattle.s2ix_edit_plan.proofs.Refused.{changes_some, entries_by_three, first_of_three, same_where_none}
+use Rattle.s2ix_edit_plan.proofs.Refused.{changes_some, entries_by_three, first_of_three, is_high, same_where_none}
 
 -- ---- the counts
 
@@ -326,9 +326,6 @@ pub rows_planned : (bag : LimitedCollection) (rows : List Held) (es : List Entry
     → rows_change bag.held rows ≡ es
 rows_planned bag rows es b plans =
     ap (λ hs. change_between bag.held hs) (sym plans.result) ∙ between_changed bag es b.rises plans.rises plans.matches
-
-is_high : LimitedCollection → Collection → Bool
-is_high bag hs = has_count_above (count_limit bag.limits) hs
 
 by_three : (bag : LimitedCollection) (rows : List Held)
     → rows_plan_refusal bag rows

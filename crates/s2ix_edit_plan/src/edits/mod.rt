@@ -35,8 +35,8 @@ use std::alloc::Global;
 ///
 /// For n pairs held, `Add` and `Remove` take O(log n), `AddUnion` O(m log n) for m cells, `DropLabel` O(n), `Relabel`
 /// O(n + m log n) and `Normalise` O(n + m log m) for m pairs of the label, and `Grow` O(n + b log b) for b cells beside those of
-/// the label. `Revert` takes O(m log n) for the m entries of the change that it takes back, however many stand. This project's
-/// own.
+/// the label. That O(n) is the worst case: edits of a label read only the parts of the bag that may have it, as [`Bag::of_label`] says.
+/// `Revert` takes O(m log n) for the m entries of the change that it takes back, however many stand. This project's own.
 pub fn plan(alloc: Global, bag: &Bag, changes: &[Change], edit: &Edit) -> Result<Change, EditError>
     ensures plan { IfOk result (Plans bag.now changes.now edit.now) }
     ensures refused { IfErr result (IsPlanRefusal bag.now changes.now edit.now) }

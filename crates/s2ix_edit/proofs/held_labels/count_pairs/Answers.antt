@@ -19,7 +19,7 @@ with_pair-requires-clause-pairs c =
     fewer c.args.bag.now.held c.args.labels.now c.requires.labels c.loop-held.yielded c.loop-held.held-iterator c.next.new.self c.in-Some.held
     c.loop-held.invariant.0 c.in-Some.ensures.steps c.loop-held.totals c.place_of-place.result c.loop-held.invariant.1 c.place_of-place.ensures.within
     c.place_of-place.ensures.found c.index-totals-place.result c.index-totals-place.is in
-    omega (arith, less, c.iter-held-items.ensures.within.few, c.args.bag.now.limits.in_range.1)
+    omega (arith, less, c.iter-held-items.ensures.within.within_limit, c.args.bag.now.limits.in_range.1)
 
 pub with_pair-requires-clause-copies : goal.with_pair-requires-clause-copies
 with_pair-requires-clause-copies c =

@@ -19,7 +19,7 @@ stood c = let Stands : State → Type 0 = λ s. IsStore s in subst Stands c.self
 room : (c : After-record_change) → length c.args.self.now.done < changes_limit c.args.self.now.bag.limits
 room c =
     let HasRoom : State → Type 0 = λ s. length s.done < changes_limit s.bag.limits in
-    let limit = c.changes-most.ensures ∙ ap changes_limit c.limits.ensures in
+    let limit = c.changes-changes_limit.ensures ∙ ap changes_limit c.limits.ensures in
     subst HasRoom c.self.view_is (omega (arith, limit))
 
 plans : (c : After-record_change) → PlansRows c.args.self.now.bag c.args.rows.now c.in_ok-gains.gains

@@ -70,8 +70,8 @@ whole_is c =
     (subst Taken c.as_slice-2.ensures.value c.in_ok-bag.ensures.accepted) (bag_is c)
     (subst Does c.as_slice-3.ensures.value c.in_ok-whole.ensures)
 
-done_is : (c : After-clear) → c.append_within.new.to.items ≡ c.self.inside.done.items ++ c.args.changes.items
-done_is c = c.append_within.ensures ∙ ap (λ (ess : List (List Entry)). ess ++ c.args.changes.items) c.in_ok-make_room.ensures.stay
+done_is : (c : After-clear) → c.append_reserved.new.to.items ≡ c.self.inside.done.items ++ c.args.changes.items
+done_is c = c.append_reserved.ensures ∙ ap (λ (ess : List (List Entry)). ess ++ c.args.changes.items) c.in_ok-make_room.ensures.stay
 
 some : (c : After-clear) → length c.args.changes.items ≡ 0 → ⊥
 some c =
@@ -96,7 +96,7 @@ invariant_of-self-2 c =
     let d = (goal.at-invariant_of-self-2 c).After-clear in
     let Stands : State → Type 0 = λ s. IsStore s in
     let parts =
-    given_parts (inside d) c.args.changes.items c.in_ok-bag.bag c.append_within.new.to.items c.clear.new.self.items
+    given_parts (inside d) c.args.changes.items c.in_ok-bag.bag c.append_reserved.new.to.items c.clear.new.self.items
     c.changed_face_count-self-inside.result (bag_is d) (done_is d) c.clear.ensures.items
     (c.changed_face_count-self-inside.ensures ∙ ap faces_of (whole_is d)) in (
       subst Stands (sym parts)
@@ -107,7 +107,7 @@ invariant_of-self-2 c =
 pub returns-clause-state : goal.returns-clause-state
 returns-clause-state c =
     let d = (goal.at-returns-clause-state c).After-clear in
-    given_parts (inside d) c.args.changes.items c.in_ok-bag.bag c.append_within.new.to.items c.clear.new.self.items
+    given_parts (inside d) c.args.changes.items c.in_ok-bag.bag c.append_reserved.new.to.items c.clear.new.self.items
     c.changed_face_count-self-inside.result (bag_is d) (done_is d) c.clear.ensures.items
     (c.changed_face_count-self-inside.ensures ∙ ap faces_of (whole_is d))
     ∙ apply_some (inside d) c.args.changes.items (some d)
@@ -117,7 +117,7 @@ pub returns-clause-history : goal.returns-clause-history
 returns-clause-history c =
     let d = (goal.at-returns-clause-history c).After-clear in
     ap history_of
-    (given_parts (inside d) c.args.changes.items c.in_ok-bag.bag c.append_within.new.to.items c.clear.new.self.items
+    (given_parts (inside d) c.args.changes.items c.in_ok-bag.bag c.append_reserved.new.to.items c.clear.new.self.items
     c.changed_face_count-self-inside.result (bag_is d) (done_is d) c.clear.ensures.items
     (c.changed_face_count-self-inside.ensures ∙ ap faces_of (whole_is d))
     ∙ apply_some (inside d) c.args.changes.items (some d))

@@ -12,7 +12,7 @@ returns-clause-stands c = search rules
 
 pub returns-clause-led : goal.returns-clause-led
 returns-clause-led c =
-    of_listed (λ s ess. CanGoBack s.bag (reverse ess)) (λ s. s.done) (λ s st. st.back)
+    of_listed (λ s ess. CanGoBack s.bag (reverse ess)) (λ s. s.done) (λ s st. st.can_go_back)
     _ _ _ c.self.invariant.0 c.self.view_is c.as_slice.ensures.value
 
 pub returns-clause-within : goal.returns-clause-within

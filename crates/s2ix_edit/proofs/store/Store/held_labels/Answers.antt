@@ -25,8 +25,8 @@ pub returns-clause-copies : goal.returns-clause-copies
 returns-clause-copies c =
     IfOk-weaker c.held_labels_of.result _ _ (λ list is. all_copies c.args.self.now.bag.held list.items is) (returns-clause-list c)
 
-pub returns-clause-few : goal.returns-clause-few
-returns-clause-few c =
-    let few = subst (λ (s : State). length s.bag.held ≤ pairs_limit s.bag.limits) c.self.view_is c.self.invariant.0.bag.few in
-    IfOk-weaker c.held_labels_of.result _ _ (λ list is. all_few c.args.self.now.bag.held list.items is (pairs_limit c.args.self.now.bag.limits) few)
+pub returns-clause-within_limit : goal.returns-clause-within_limit
+returns-clause-within_limit c =
+    let within_limit = subst (λ (s : State). length s.bag.held ≤ pairs_limit s.bag.limits) c.self.view_is c.self.invariant.0.bag.within_limit in
+    IfOk-weaker c.held_labels_of.result _ _ (λ list is. all_few c.args.self.now.bag.held list.items is (pairs_limit c.args.self.now.bag.limits) within_limit)
     (returns-clause-list c)

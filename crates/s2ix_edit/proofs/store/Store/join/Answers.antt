@@ -12,11 +12,11 @@ use Rattle.s2ix_edit.proofs.store.Store.join.Goals as goal
 
 few_returned : (s t : State) (last : ℕ) → IsStore s → s ≡ t → last < 2 → last ≤ length s.done
     → (t ≡ after_join t last) × (history_of t ≡ with_joined last (history_of t))
-few_returned s t last st is few within =
+few_returned s t last st is within_limit within =
     let Stands : State → Type 0 = λ x. IsStore x in
     let Within : State → Type 0 = λ x. last ≤ length x.done in
     let t_is = subst Stands is st in
-    let stays = sym (few_stay t last t_is (omega (arith, few)) (subst Within is within)) in (
+    let stays = sym (few_stay t last t_is (omega (arith, within_limit)) (subst Within is within)) in (
       stays,
       ap history_of stays ∙ history_after_join t last t_is,
     )

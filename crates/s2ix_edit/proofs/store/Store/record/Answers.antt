@@ -6,7 +6,7 @@ use Rattle.s2ix_bag_pairs.specs.declared.pair.Entry.{Entry}
 use Rattle.s2ix_bag_pairs.specs.Limits.{changes_limit}
 use Rattle.s2ix_edit_plan.specs.State.{State, history_of}
 use Rattle.s2ix_edit.specs.OneChange.{IsRecordRefusal, change_refusal, record_error}
-use Rattle.s2ix_edit.specs.declared.history_error.RecordError.{RecordError}
+use Rattle.s2ix_edit.specs.declared.record_error.RecordError.{RecordError}
 use Rattle.s2ix_edit.specs.Store.{IsStore}
 use Rattle.s2ix_edit.proofs.Offered.{bag_error, has_some, history_recorded, refused_by_bag}
 use Rattle.s2ix_edit.proofs.store.Store.record.Goals.{After-applied}
@@ -18,7 +18,7 @@ stood c = let Stands : State → Type 0 = λ s. IsStore s in subst Stands c.self
 room : (c : After-applied) → length c.args.self.now.done < changes_limit c.args.self.now.bag.limits
 room c =
     let HasRoom : State → Type 0 = λ s. length s.done < changes_limit s.bag.limits in
-    let limit = c.changes-most.ensures ∙ ap changes_limit c.limits.ensures in
+    let limit = c.changes-changes_limit.ensures ∙ ap changes_limit c.limits.ensures in
     subst HasRoom c.self.view_is (omega (arith, limit))
 
 some : (c : After-applied) → 0 < length c.args.change

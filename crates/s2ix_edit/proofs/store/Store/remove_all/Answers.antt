@@ -16,7 +16,7 @@ stood c = let Stands : State → Type 0 = λ s. IsStore s in subst Stands c.self
 room : (c : After-plan_removals) → length c.args.self.now.done < changes_limit c.args.self.now.bag.limits
 room c =
     let HasRoom : State → Type 0 = λ s. length s.done < changes_limit s.bag.limits in
-    let limit = c.changes-most.ensures ∙ ap changes_limit c.limits.ensures in
+    let limit = c.changes-changes_limit.ensures ∙ ap changes_limit c.limits.ensures in
     subst HasRoom c.self.view_is (omega (arith, limit))
 
 takes : (c : In_ok-losses) → TakesRows c.args.self.now.bag c.args.rows.now c.in_ok-losses.losses

@@ -9,7 +9,7 @@ returns-clause-undone c = search rules
 
 pub returns-clause-led : goal.returns-clause-led
 returns-clause-led c =
-    of_listed (λ s ess. CanGoOn s.bag (reverse ess)) (λ s. s.undone) (λ s st. st.on)
+    of_listed (λ s ess. CanGoOn s.bag (reverse ess)) (λ s. s.undone) (λ s st. st.can_go_on)
     _ _ _ c.self.invariant.0 c.self.view_is c.as_slice.ensures.value
 
 pub returns-clause-within : goal.returns-clause-within
