@@ -43,7 +43,7 @@ pub record Stopped (lines : List (List ℕ)) (run : Run) (so_far more : RunEnd) 
   pub counts : CountsMore (done ++ line ∷ []) run.store_before so_far more
 
 -- lines were carried out up to one in whose answer the sink failed
-pub record Cut (lines : List (List ℕ)) (run : Run) : Type 0 where
+pub record CutShort (lines : List (List ℕ)) (run : Run) : Type 0 where
   pub done : List (List ℕ)
   pub line : List ℕ
   pub rest : List (List ℕ)
@@ -66,7 +66,7 @@ pub record Wanting (lines : List (List ℕ)) (run : Run) : Type 0 where
 
 -- a fault ended lines
 abbrev pub FaultAmong : RunFault → List (List ℕ) → Run → Type 0
-FaultAmong Write lines run = Cut lines run
+FaultAmong Write lines run = CutShort lines run
 FaultAmong OutOfMemory lines run = Wanting lines run
 FaultAmong Read lines run = ⊥
 FaultAmong ReaderTooLong lines run = ⊥

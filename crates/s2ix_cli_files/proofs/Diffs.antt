@@ -13,6 +13,7 @@ use Rattle.s2ix_edit_plan.specs.State.{State, history_of}
 use Rattle.s2ix_edit.specs.Given.{led_by}
 use Rattle.s2ix_edit.specs.Steps.{recorded_alone, with_held}
 use Rattle.s2ix_edit.specs.Store.{CanGoBack, IsStore}
+use Rattle.s2ix_edit.proofs.Between.{alone_few, between_taken}
 use Rattle.s2ix_edit.proofs.Journals.{done_is_taken_back, done_leads, done_leads_back}
 use Rattle.s2ix_text_write.specs.Dump.{dump_text}
 use Rattle.s2ix_text_write.specs.Journal.{journal_text}
@@ -20,7 +21,6 @@ use Rattle.s2ix_cli_files.specs.declared.refusal.Refusal.{Refusal}
 use Rattle.s2ix_cli_files.specs.Answers.{Answer, ReplayAnswers, RewindAnswers, answer_of, journal_of}
 use Rattle.s2ix_cli_files.specs.Laws.{DiffsLead}
 use Rattle.s2ix_cli_files.specs.Reads.{DumpReads, IsDumpOf, JournalReads, ReplayLeads, RewindLeads, TextsDiffer}
-use Rattle.s2ix_cli_files.proofs.Between.{between_taken}
 use Rattle.s2ix_cli_files.proofs.One.{same_value}
 use Rattle.s2ix_cli_files.proofs.Recorded.{done_has_journal, done_is_journal}
 use Rattle.s2ix_cli_files.proofs.There.{leads_home}
@@ -38,10 +38,6 @@ alone_goes_back bag old (e ∷ es) b old_is is = (
   tt,
 )
 
-alone_few : (es : List Entry) → length (recorded_alone es) ≤ 1
-alone_few [] = omega arith
-alone_few (e ∷ es) = omega arith
-
 -- the store at a bag with the change from another collection done
 led_from : LimitedCollection → Collection → State
 led_from bag old = led_by bag (recorded_alone (change_between old bag.held))
@@ -53,8 +49,8 @@ led_is_store bag old b old_is =
     let low : 1 ≤ changes_limit bag.limits = bag.limits.in_range.4 in
     record {
       bag = b;
-      back = alone_goes_back bag old es b old_is refl;
-      on = tt;
+      can_go_back = alone_goes_back bag old es b old_is refl;
+      can_go_on = tt;
       room = omega (arith, alone_few es, low);
     }
 

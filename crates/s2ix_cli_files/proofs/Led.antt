@@ -29,7 +29,7 @@ unrecorded full empty = cond full (Some history.JournalFull) (option_map history
 pub journal_is_recordable : (limits : Limits) (changes : List (List Entry)) → IsJournal limits changes
     → record_refusal (changes_limit limits) changes ≡ None
 journal_is_recordable limits changes is =
-    ap₂ unrecorded (le-ltb (changes_limit limits) (length changes) is.within.few) (none_empty 1 changes is.within.writable)
+    ap₂ unrecorded (le-ltb (changes_limit limits) (length changes) is.within.within_limit) (none_empty 1 changes is.within.writable)
 
 pub recordable_of : (limits : Limits) (bag : LimitedCollection) (changes : List (List Entry)) → bag.limits ≡ limits
     → IsJournal limits changes → record_refusal (changes_limit bag.limits) changes ≡ None

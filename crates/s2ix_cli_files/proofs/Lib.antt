@@ -1,4 +1,3 @@
-pub mod Between
 pub mod Diffs
 pub mod Gone
 pub mod Joined

@@ -15,7 +15,7 @@ use Rattle.s2ix_text.proofs.Answered.{no_fault}
 writable : (limits : Limits) (es : List Entry) → IsRecorded limits es → IsWritable es
 writable limits es recorded =
     let widest = recorded_within_widest limits es recorded in
-    record { some = recorded.some; few = widest.0; small_before = widest.1; small_after = widest.2 }
+    record { some = recorded.some; within_limit = widest.0; small_before = widest.1; small_after = widest.2 }
 
 pub done_is_journal : (s : State) → IsStore s → IsJournal s.bag.limits s.done
 done_is_journal s st =
@@ -25,7 +25,7 @@ done_is_journal s st =
       within = record {
         writable = λ k d within. writable s.bag.limits _ (each k d within);
         small = λ k d within. λ j e inside. let one = each k d within in (one.small_before j e inside, one.small_after j e inside);
-        few = omega (arith, st.room);
+        within_limit = omega (arith, st.room);
       };
     }
 

@@ -31,7 +31,7 @@ bag_more limits hs b =
     let count : count_limit limits ≤ 4294967295 = limits.in_range.3 in
     record {
       rises = b.rises;
-      few = omega (arith, b.few, pairs);
+      within_limit = omega (arith, b.within_limit, pairs);
       small = λ k d within. let small = b.small k d within in omega (arith, small, count);
     }
 
@@ -43,7 +43,7 @@ taken_more limits hs es none =
     refusal_of_taken (holding widest hs) es (record {
       before = taken.before;
       within = within_more (count_limit limits) 4294967295 es limits.in_range.3 taken.within;
-      few = omega (arith, taken.few, pairs);
+      within_limit = omega (arith, taken.within_limit, pairs);
     })
 
 back_more : (limits : Limits) (hs : Collection) (ess : List (List Entry)) → CanGoBack (holding limits hs) ess
@@ -62,7 +62,7 @@ widened_is_store s st =
     let changes : changes_limit limits ≤ 100000 = limits.in_range.5 in
     record {
       bag = bag_more limits s.bag.held st.bag;
-      back = back_more limits s.bag.held (reverse s.done) st.back;
-      on = on_more limits s.bag.held (reverse s.undone) st.on;
+      can_go_back = back_more limits s.bag.held (reverse s.done) st.can_go_back;
+      can_go_on = on_more limits s.bag.held (reverse s.undone) st.can_go_on;
       room = omega (arith, st.room, changes);
     }

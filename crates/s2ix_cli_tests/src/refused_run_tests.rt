@@ -125,7 +125,7 @@ fn ran(alloc: Global, store: &mut Store, text: &[u8]) -> (Result<RunEnd, RunFaul
 }
 
 // How many of some lines a text begins with the answers to, and what is after them.
-fn told<'a>(text: &'a [u8], lines: &[Line]) -> (usize, &'a [u8]) {
+fn answered_front<'a>(text: &'a [u8], lines: &[Line]) -> (usize, &'a [u8]) {
     let (mut count, mut rest) = (0usize, text);
     for (_, answer) in lines {
         let Some(after) = rest.strip_prefix(answer) else {
@@ -140,14 +140,14 @@ fn told<'a>(text: &'a [u8], lines: &[Line]) -> (usize, &'a [u8]) {
 // Whether a run carried out all of some lines, and wrote exactly their answers.
 fn is_whole(end: Result<RunEnd, RunFault>, kept: &[u8], lines: &[Line]) -> bool {
     let is_end = matches!(end, Ok(end) if u64::try_from(lines.len()) == Ok(end.lines));
-    let (count, rest) = told(kept, lines);
+    let (count, rest) = answered_front(kept, lines);
     is_end && count == lines.len() && rest.is_empty()
 }
 
 // How many lines a run carried out that gave up with a fault, by what it wrote: their answers, of which a sink without room has a prefix of
 // the last.
 fn carried(rt: &impl Abort, fault: RunFault, kept: &[u8], lines: &[Line]) -> usize {
-    let (count, rest) = told(kept, lines);
+    let (count, rest) = answered_front(kept, lines);
     if fault == RunFault::OutOfMemory {
         assert!(rt; rest.is_empty() && count < lines.len());
         return count;

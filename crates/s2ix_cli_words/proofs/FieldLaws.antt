@@ -82,8 +82,8 @@ part_after i j hay le =
     ∙ take-append-drop (j - i) (drop i hay))
 
 -- two stretches, and what is after them
-parts_after : (i j k : ℕ) (hay : List ℕ) → i ≤ j → j ≤ k → drop i hay ≡ part i j hay ++ (part j k hay ++ drop k hay)
-parts_after i j k hay first second = part_after i j hay first ∙ ap (λ rest. part i j hay ++ rest) (part_after j k hay second)
+two_parts_after : (i j k : ℕ) (hay : List ℕ) → i ≤ j → j ≤ k → drop i hay ≡ part i j hay ++ (part j k hay ++ drop k hay)
+two_parts_after i j k hay first second = part_after i j hay first ∙ ap (λ rest. part i j hay ++ rest) (part_after j k hay second)
 
 -- fields stand in a line: before and after each is white space, so many bytes of it at least before the first and one before each
 -- other one, and in it none
@@ -107,7 +107,7 @@ stand_more hay fields least from a b m n before some within blank word later =
     let wide : length (part from a hay) ≡ a - from = length-take-le (a - from) (drop from hay) (part_fits from a hay (omega arith)) in (
       part from a hay,
       drop b hay,
-      parts_after from a b hay (omega arith) (omega arith),
+      two_parts_after from a b hay (omega arith) (omega arith),
       alike_chars is_whitespace true m (a - from) (drop from hay) (part_fits from a hay (omega arith)) blank,
       omega arith,
       omega arith,

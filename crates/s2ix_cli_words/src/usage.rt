@@ -13,7 +13,7 @@ pub(crate) fn usage(alloc: Global, text: &str) -> WordsFault
     ensures usage { IsUsage result }
     ensures plain { Says ArePlain result }
 {
-    told(plain_text(alloc, text))
+    as_usage(plain_text(alloc, text))
 }
 
 /// The usage of a value that is no number in the range of its option, a limit.
@@ -21,7 +21,7 @@ pub(crate) fn limit_usage(alloc: Global, option: &str, value: &str, greatest: u3
     ensures usage { IsUsage result }
     ensures plain { Says ArePlain result }
 {
-    told(limit_text(alloc, option, value, greatest))
+    as_usage(limit_text(alloc, option, value, greatest))
 }
 
 // What clap says of a value that is no number in the range of its option.
@@ -40,7 +40,7 @@ pub(crate) fn lone_journal_usage(alloc: Global) -> WordsFault
     ensures usage { IsUsage result }
     ensures plain { Says ArePlain result }
 {
-    told(lone_journal_text(alloc))
+    as_usage(lone_journal_text(alloc))
 }
 
 // What clap says of a journal for a run that is given no dump.
@@ -56,7 +56,7 @@ pub fn not_utf8(alloc: Global, word: &[u8]) -> WordsFault
     ensures usage { IsUsage result }
     ensures text { Says (λ text. text ≡ not_utf8_text word.now) result }
 {
-    told(strange_text(alloc, word))
+    as_usage(strange_text(alloc, word))
 }
 
 // What is told of a word that is no UTF-8.
@@ -70,7 +70,7 @@ fn strange_text(alloc: Global, word: &[u8]) -> Result<String, AllocError>
 }
 
 // Usage with this text, if there was room for it.
-fn told(text: Result<String, AllocError>) -> WordsFault
+fn as_usage(text: Result<String, AllocError>) -> WordsFault
     ensures usage { IsUsage result }
     ensures text { result ≡ as_usage text }
 {

@@ -29,7 +29,7 @@ put_together : (version : Version) (limits : Limits) (text header below : List �
 unfolding journal_in
 put_together version limits text header below cs cut is are parts =
     let whole : text ≡ journal_in version cs = cut ∙ ap₂ (λ (h b : List ℕ). h ++ 10 ∷ b) is parts in
-    (journal_of_groups version limits cs are.groups are.few, (version, groups_writable version limits cs are.groups, whole))
+    (journal_of_groups version limits cs are.groups are.within_limit, (version, groups_writable version limits cs are.groups, whole))
 
 pub read_below : {X Y : Type 0} (r : Result X Y) (list : X → List (List Entry)) (version : Version) (most : ℕ) (limits : Limits)
     (text header below : List ℕ)

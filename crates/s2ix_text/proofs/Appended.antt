@@ -83,10 +83,10 @@ held_in limits header version hs named is =
 pub dumped_more : (limits : Limits) (header : List ℕ) (hs : Collection) (h : Held) → IsDumped limits header hs → HasCount header h
     → comes_before (last_pair hs) (Some h.pair) ≡ true → h.count ≤ count_limit limits → length hs < pairs_limit limits
     → IsDumped limits header (hs ++ h ∷ [])
-dumped_more limits header hs h is counted before small few = record {
+dumped_more limits header hs h is counted before small within_limit = record {
   bag = record {
     rises = rises_more hs h is.bag.rises before (omega (arith, counted.0));
-    few = omega (arith, length_push hs h, few);
+    within_limit = omega (arith, length_push hs h, within_limit);
     small = All-push (λ (x : Held). x.count ≤ count_limit limits) hs h is.bag.small small;
   };
   written = All-push (λ (x : Held). x.count ≤ greatest_count header) hs h is.written counted.1;
@@ -97,7 +97,7 @@ pub front_is_dumped : (limits : Limits) (header : List ℕ) (hs ks : Collection)
 front_is_dumped limits header hs ks is = record {
   bag = record {
     rises = subst IsCollection (take_at hs ks (length hs) refl) (collection_take (length hs) 0 (hs ++ ks) is.bag.rises);
-    few = omega (arith, length-append hs ks, is.bag.few);
+    within_limit = omega (arith, length-append hs ks, is.bag.within_limit);
     small = front_has (λ (h : Held). h.count ≤ count_limit limits) hs ks is.bag.small;
   };
   written = front_has (λ (h : Held). h.count ≤ greatest_count header) hs ks is.written;

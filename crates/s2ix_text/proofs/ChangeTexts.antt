@@ -29,22 +29,22 @@ end_graphic =
     (All-cons IsGraphic 110 (100 ∷ []) (omega arith) (All-cons IsGraphic 100 [] (omega arith) (All-nil IsGraphic)))
 
 end_parts : (groups : ℕ) → groups < 2 ^ 64 → parts_of (end_text groups) ≡ codes "end" ∷ decimal groups ∷ []
-end_parts groups few =
+end_parts groups within_limit =
     parts_more (codes "end") (decimal groups) end_graphic
-    ∙ ap (λ (ps : List (List ℕ)). codes "end" ∷ ps) (parts_last (decimal groups) (decimal_graphic groups few))
+    ∙ ap (λ (ps : List (List ℕ)). codes "end" ∷ ps) (parts_last (decimal groups) (decimal_graphic groups within_limit))
 
 pub end_lacks_feed : (groups : ℕ) → groups < 2 ^ 64 → Lacks 10 (end_text groups)
-end_lacks_feed groups few =
+end_lacks_feed groups within_limit =
     lacks_feed_more (codes "end") (decimal groups) end_graphic
-    (graphic_lacks 10 (decimal groups) (omega arith) (decimal_graphic groups few))
+    (graphic_lacks 10 (decimal groups) (omega arith) (decimal_graphic groups within_limit))
 
 pub end_has_parts : (groups : ℕ) → groups < 2 ^ 64 → has_parts 2 (end_text groups) ≡ true
-end_has_parts groups few =
-    two_from_parts (end_text groups) (codes "end") (decimal groups) (end_parts groups few) refl
-    (is_some_text _ (decimal_nonempty groups few))
+end_has_parts groups within_limit =
+    two_from_parts (end_text groups) (codes "end") (decimal groups) (end_parts groups within_limit) refl
+    (is_some_text _ (decimal_nonempty groups within_limit))
 
 pub end_is_end : (groups : ℕ) → groups < 2 ^ 64 → is_end (end_text groups) ≡ true
-end_is_end groups few = ap (λ (ps : List (List ℕ)). bytes_eq (slice_index_or ps 0 []) (codes "end")) (end_parts groups few)
+end_is_end groups within_limit = ap (λ (ps : List (List ℕ)). bytes_eq (slice_index_or ps 0 []) (codes "end")) (end_parts groups within_limit)
 
 pub end_with_feed : (changes : List (List Entry)) → last_line changes ≡ end_text (length changes) ++ 10 ∷ []
 unfolding last_line
@@ -54,7 +54,7 @@ end_with_feed changes = simp append_assoc
 pub end_tested : (line a b digits : List ℕ) (groups : ℕ) (r : Bool) → is_end line ≡ true → parts_of line ≡ a ∷ b ∷ [] → groups < 2 ^ 64
     → r ≡ bytes_eq b digits → digits ≡ decimal groups
     → (r ≡ true) ↔ (line ≡ end_text groups)
-end_tested line a b digits groups r end are few r_is digits_are = (
+end_tested line a b digits groups r end are within_limit r_is digits_are = (
   λ holds.
       let first : a ≡ codes "end" =
       (bytes_eq-Decides a (codes "end")).0
@@ -62,7 +62,7 @@ end_tested line a b digits groups r end are few r_is digits_are = (
       let second : b ≡ decimal groups = (bytes_eq-Decides b digits).0 (sym r_is ∙ holds) ∙ digits_are in
       two_joined line a b are ∙ rw (first, second) refl,
   λ is.
-      let same : a ∷ b ∷ [] ≡ codes "end" ∷ decimal groups ∷ [] = sym are ∙ ap parts_of is ∙ end_parts groups few in
+      let same : a ∷ b ∷ [] ≡ codes "end" ∷ decimal groups ∷ [] = sym are ∙ ap parts_of is ∙ end_parts groups within_limit in
       let second : b ≡ decimal groups = ap (λ (ps : List (List ℕ)). slice_index_or ps 1 []) same in
       r_is ∙ (bytes_eq-Decides b digits).1 (second ∙ sym digits_are),
 )
@@ -77,33 +77,33 @@ change_graphic =
 
 change_parts : (size : ℕ) → size < 2 ^ 64 → parts_of (change_text size) ≡ codes "change" ∷ decimal size ∷ []
 unfolding change_text
-change_parts size few =
+change_parts size within_limit =
     parts_more (codes "change") (decimal size) change_graphic
-    ∙ ap (λ (ps : List (List ℕ)). codes "change" ∷ ps) (parts_last (decimal size) (decimal_graphic size few))
+    ∙ ap (λ (ps : List (List ℕ)). codes "change" ∷ ps) (parts_last (decimal size) (decimal_graphic size within_limit))
 
 pub change_lacks_feed : (size : ℕ) → size < 2 ^ 64 → Lacks 10 (change_text size)
 unfolding change_text
-change_lacks_feed size few =
+change_lacks_feed size within_limit =
     lacks_feed_more (codes "change") (decimal size) change_graphic
-    (graphic_lacks 10 (decimal size) (omega arith) (decimal_graphic size few))
+    (graphic_lacks 10 (decimal size) (omega arith) (decimal_graphic size within_limit))
 
 pub change_with_feed : (es : List Entry) → change_line es ≡ change_text (length es) ++ 10 ∷ []
 unfolding change_line change_text
 change_with_feed es = simp append_assoc
 
 change_is_change : (size : ℕ) → size < 2 ^ 64 → is_change (change_text size) ≡ true
-change_is_change size few =
+change_is_change size within_limit =
     and_from _ _
-    (two_from_parts (change_text size) (codes "change") (decimal size) (change_parts size few) refl
-    (is_some_text _ (decimal_nonempty size few)))
-    (ap (λ (ps : List (List ℕ)). bytes_eq (slice_index_or ps 0 []) (codes "change")) (change_parts size few))
+    (two_from_parts (change_text size) (codes "change") (decimal size) (change_parts size within_limit) refl
+    (is_some_text _ (decimal_nonempty size within_limit)))
+    (ap (λ (ps : List (List ℕ)). bytes_eq (slice_index_or ps 0 []) (codes "change")) (change_parts size within_limit))
 
 pub change_is_no_end : (size : ℕ) → size < 2 ^ 64 → is_end (change_text size) ≡ false
-change_is_no_end size few = ap (λ (ps : List (List ℕ)). bytes_eq (slice_index_or ps 0 []) (codes "end")) (change_parts size few)
+change_is_no_end size within_limit = ap (λ (ps : List (List ℕ)). bytes_eq (slice_index_or ps 0 []) (codes "end")) (change_parts size within_limit)
 
 size_of_change : (size : ℕ) → 1 ≤ size → size ≤ 2000000 → size_written (part 1 (change_text size)) ≡ Some size
-size_of_change size some few =
-    ap (λ (ps : List (List ℕ)). size_written (slice_index_or ps 1 [])) (change_parts size (omega arith)) ∙ size_of_digits size some few
+size_of_change size some within_limit =
+    ap (λ (ps : List (List ℕ)). size_written (slice_index_or ps 1 [])) (change_parts size (omega arith)) ∙ size_of_digits size some within_limit
 
 -- what a line writes, from its parts
 pub size_by : (limits : Limits) (groups : ℕ) (line : List ℕ) (size : Option ℕ) → is_change line ≡ true → size_written (part 1 line) ≡ size
@@ -117,8 +117,8 @@ size_unless limits groups line change = ap (size_after limits groups) (cond-fals
 
 pub size_of_text : (limits : Limits) (groups size : ℕ) → 1 ≤ size → size ≤ 2000000 → groups < changes_limit limits
     → next_size limits groups (change_text size) ≡ Ok size
-size_of_text limits groups size some few room =
-    size_by limits groups (change_text size) (Some size) (change_is_change size (omega arith)) (size_of_change size some few)
+size_of_text limits groups size some within_limit room =
+    size_by limits groups (change_text size) (Some size) (change_is_change size (omega arith)) (size_of_change size some within_limit)
     ∙ cond-false _ _ _ (lt-leb (changes_limit limits) groups room)
 
 -- and no other line writes it
@@ -126,7 +126,7 @@ size_of_text limits groups size some few room =
 pub record IsSize (limits : Limits) (groups : ℕ) (line : List ℕ) (size : ℕ) : Type 0 where
   pub text : line ≡ change_text size
   pub some : 1 ≤ size
-  pub few : size ≤ 2000000
+  pub within_limit : size ≤ 2000000
   pub room : groups < changes_limit limits
   pub written : size_written (part 1 line) ≡ Some size
 
@@ -149,7 +149,7 @@ size_at limits groups line size true (Some n) a b is =
     let equal : n ≡ size = cc in
     let written : size_written (part 1 line) ≡ Some size = b ∙ ap Some equal in
     let range = written_size (part 1 line) size written in
-    record { text = text_from_size line size a written; some = range.1; few = range.2; room = room; written = written })
+    record { text = text_from_size line size a written; some = range.1; within_limit = range.2; room = room; written = written })
     (λ full. let clash : ◌≡◌ {A = Result ℕ JournalFault} (Err TooManyChanges) (Ok size) =
     sym (cond-true _ _ _ (le-leb (changes_limit limits) groups full)) ∙ is in cc)
     (cases_lt groups (changes_limit limits))

@@ -191,16 +191,16 @@ pub next_is : (limits : Limits) (header : List ℕ) (hs : Collection) (line : Li
     → comes_before (last_pair hs) (Some h.pair) ≡ true → h.count ≤ count_limit limits → length hs < pairs_limit limits
     → IsNext limits header hs line h
 unfolding next_fault
-next_is limits header hs line h is no_end writes before small few =
+next_is limits header hs line h is no_end writes before small within_limit =
     let own = line_from_held header line h writes in
     record {
       text = own.0;
-      dumped = dumped_more limits header hs h is own.1 before small few;
+      dumped = dumped_more limits header hs h is own.1 before small within_limit;
       sound =
           pair_row limits header hs line is no_end ∙ ap (next_fault limits hs) writes
           ∙ cond-false _ _ _ (ap not before)
           ∙ cond-false _ _ _ (le-ltb (count_limit limits) h.count small)
-          ∙ cond-false _ _ _ (lt-leb (pairs_limit limits) (length hs) few);
+          ∙ cond-false _ _ _ (lt-leb (pairs_limit limits) (length hs) within_limit);
     }
 
 -- ---- the end line

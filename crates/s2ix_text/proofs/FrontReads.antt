@@ -33,7 +33,7 @@ pub parts_of_common : (most : ℕ) → most < 2 ^ 32 → (text rest : List ℕ) 
 parts_of_common most bounded text rest h common =
     let after_label = decimal h.count ++ 10 ∷ rest in
     let after_token = decimal (value_of h.pair.label) ++ 32 ∷ after_label in
-    let few = common.few in
+    let within_limit = common.within_limit in
     let small = common.label in
     let past = common.after in
     let count_some = decimal_nonempty h.count (omega arith) in
@@ -93,10 +93,10 @@ pub count_is : (most : ℕ) → most < 2 ^ 32 → (text after past below rest : 
     → text ≡ canonical_token m ++ 32 ∷ after → after ≡ decimal label ++ 32 ∷ past → label < 2 ^ 64 → past ≡ decimal count ++ 10 ∷ below
     → count < 2 ^ 64
     → IsCommonFront most text h rest → (label ≡ value_of h.pair.label) × (count ≡ h.count)
-count_is most bounded text after past below rest m label count h read read_label small read_count few common =
+count_is most bounded text after past below rest m label count h read read_label small read_count within_limit common =
     let is_due = count_is_due most bounded text after past rest m label h read read_label small common in
-    let few_own = common.few in
-    (is_due.0, (one_number past below rest count h.count 10 (omega arith) few (omega arith) read_count is_due.1).0)
+    let few_own = common.within_limit in
+    (is_due.0, (one_number past below rest count h.count 10 (omega arith) within_limit (omega arith) read_count is_due.1).0)
 
 -- ---- the pair of a line in front
 
@@ -110,13 +110,13 @@ one_pair header g h counted_g counted_h same =
 pub record PassesAll (limits : Limits) (hs : Collection) (g : Held) : Type 0 where
   pub before : comes_before (last_pair hs) (Some g.pair) ≡ true
   pub small : g.count ≤ count_limit limits
-  pub few : length hs < pairs_limit limits
+  pub within_limit : length hs < pairs_limit limits
 
 pub next_passes : (limits : Limits) (header : List ℕ) (hs : Collection) (text past rest : List ℕ) (g h : Held) → HasCount header g
     → text ≡ line_text g ++ 10 ∷ past → IsCommonFront (greatest_count header) text h rest → IsNext limits header hs (line_text h) h
     → PassesAll limits hs g
 next_passes limits header hs text past rest g h counted read common next =
-    let counts : HasCount header h = (common.some, common.few) in
+    let counts : HasCount header h = (common.some, common.within_limit) in
     let cut =
     one_cut 10 (line_text h) (line_text g) rest past (line_lacks_feed header h counts) (line_lacks_feed header g counted)
     (sym common.whole ∙ read) in
@@ -124,5 +124,5 @@ next_passes limits header hs text past rest g h counted read common next =
     (record {
       before = next_before hs h [] next.dumped.bag.rises;
       small = here_has (λ (x : Held). x.count ≤ count_limit limits) hs h [] next.dumped.bag.small;
-      few = omega (arith, length_push hs h, next.dumped.bag.few);
+      within_limit = omega (arith, length_push hs h, next.dumped.bag.within_limit);
     })

@@ -207,7 +207,7 @@ no_header limits text lines =
 -- the sum of the counts fits, and one pair more
 pub copies_small : (limits : Limits) (hs : Collection) → IsBag (record { limits = limits; held = hs })
     → (length hs ≤ 1000000) × (copies_in hs ≤ 4294967295000000)
-copies_small limits hs bag = (omega (arith, bag.few, limits.in_range.1), copies_bound (record { limits = limits; held = hs }) bag)
+copies_small limits hs bag = (omega (arith, bag.within_limit, limits.in_range.1), copies_bound (record { limits = limits; held = hs }) bag)
 
 -- ---- what the code of `read_below` tests
 

@@ -106,8 +106,8 @@ pub group_passed : (most : ℕ) → most < 2 ^ 32
     → IsPassed most limits above (group_lines es) (groups + 1) lines
 group_passed most bounded limits above groups es lines is group room some =
     let line = change_text (length es) in
-    let no_end = change_is_no_end (length es) (omega (arith, group.few)) in
-    let size = size_of_text limits groups (length es) group.some group.few room in
+    let no_end = change_is_no_end (length es) (omega (arith, group.within_limit)) in
+    let size = size_of_text limits groups (length es) group.some group.within_limit room in
     let sound = group_row most limits above line groups is no_end ∙ ap (λ (r : Result ℕ JournalFault). result_err r) size in
     let so_far = group_begun most above line groups (length es) is no_end (line_from_size limits groups line (length es) size).written in
     let whole : length es ≡ length es + 0 = omega arith in

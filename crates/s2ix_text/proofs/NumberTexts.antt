@@ -35,7 +35,7 @@ side_in_range most None n is = cc
 side_in_range most (Some m) n is =
     ⊎_elim
     (λ high. let clash : None ≡ Some n = sym (side_above most m high) ∙ is in cc)
-    (λ few. let same : Some m ≡ Some n = sym (side_within most m few) ∙ is in let equal : m ≡ n = cc in (ap Some equal, omega arith))
+    (λ within_limit. let same : Some m ≡ Some n = sym (side_within most m within_limit) ∙ is in let equal : m ≡ n = cc in (ap Some equal, omega arith))
     (cases_lt most m)
 
 pub written_side : (most : ℕ) (text : List ℕ) (n : ℕ) → side_written most text ≡ Some n → (text ≡ decimal n) × (n ≤ most)
@@ -76,7 +76,7 @@ size_in_range (Some m) n is =
     (λ low. let clash : None ≡ Some n = sym (size_zero m low) ∙ is in cc)
     (λ some. ⊎_elim
     (λ high. let clash : None ≡ Some n = sym (size_above m high) ∙ is in cc)
-    (λ few. let same : Some m ≡ Some n = sym (size_within m some few) ∙ is in let equal : m ≡ n = cc in
+    (λ within_limit. let same : Some m ≡ Some n = sym (size_within m some within_limit) ∙ is in let equal : m ≡ n = cc in
     (ap Some equal, omega arith, omega arith))
     (cases_lt 2000000 m))
     (cases_lt m 1)

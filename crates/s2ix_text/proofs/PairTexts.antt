@@ -160,21 +160,21 @@ end_graphic =
 
 pub end_parts : (pairs copies : ℕ) → pairs < 2 ^ 64 → copies < 2 ^ 64
     → parts_of (end_text pairs copies) ≡ codes "end" ∷ decimal pairs ∷ decimal copies ∷ []
-end_parts pairs copies few small =
-    parts_of_three (codes "end") (decimal pairs) (decimal copies) end_graphic (decimal_graphic pairs few) (decimal_graphic copies small)
+end_parts pairs copies within_limit small =
+    parts_of_three (codes "end") (decimal pairs) (decimal copies) end_graphic (decimal_graphic pairs within_limit) (decimal_graphic copies small)
 
 pub end_lacks_feed : (pairs copies : ℕ) → pairs < 2 ^ 64 → copies < 2 ^ 64 → Lacks 10 (end_text pairs copies)
-end_lacks_feed pairs copies few small =
-    no_feed (codes "end") (decimal pairs) (decimal copies) end_graphic (decimal_graphic pairs few) (decimal_graphic copies small)
+end_lacks_feed pairs copies within_limit small =
+    no_feed (codes "end") (decimal pairs) (decimal copies) end_graphic (decimal_graphic pairs within_limit) (decimal_graphic copies small)
 
 pub end_has_parts : (pairs copies : ℕ) → pairs < 2 ^ 64 → copies < 2 ^ 64 → has_parts 3 (end_text pairs copies) ≡ true
-end_has_parts pairs copies few small =
-    three_from_parts (end_text pairs copies) (codes "end") (decimal pairs) (decimal copies) (end_parts pairs copies few small) refl
-    (is_some_text _ (decimal_nonempty pairs few)) (is_some_text _ (decimal_nonempty copies small))
+end_has_parts pairs copies within_limit small =
+    three_from_parts (end_text pairs copies) (codes "end") (decimal pairs) (decimal copies) (end_parts pairs copies within_limit small) refl
+    (is_some_text _ (decimal_nonempty pairs within_limit)) (is_some_text _ (decimal_nonempty copies small))
 
 pub end_is_end : (pairs copies : ℕ) → pairs < 2 ^ 64 → copies < 2 ^ 64 → is_end (end_text pairs copies) ≡ true
-end_is_end pairs copies few small =
-    ap (λ (ps : List (List ℕ)). bytes_eq (slice_index_or ps 0 []) (codes "end")) (end_parts pairs copies few small)
+end_is_end pairs copies within_limit small =
+    ap (λ (ps : List (List ℕ)). bytes_eq (slice_index_or ps 0 []) (codes "end")) (end_parts pairs copies within_limit small)
 
 pub end_with_feed : (hs : Collection) → end_line hs ≡ end_text (length hs) (copies_in hs) ++ 10 ∷ []
 unfolding end_line
@@ -185,7 +185,7 @@ pub end_tested : (line a b c pairs_digits copies_digits : List ℕ) (pairs copie
     → parts_of line ≡ a ∷ b ∷ c ∷ [] → pairs < 2 ^ 64 → copies < 2 ^ 64
     → p ≡ bytes_eq b pairs_digits → pairs_digits ≡ decimal pairs → q ≡ bytes_eq c copies_digits → copies_digits ≡ decimal copies
     → Decides (p && q) (line ≡ end_text pairs copies)
-end_tested line a b c pairs_digits copies_digits pairs copies p q end are few small p_is pairs_are q_is copies_are = (
+end_tested line a b c pairs_digits copies_digits pairs copies p q end are within_limit small p_is pairs_are q_is copies_are = (
   λ both.
       let parts = and_parts p q both in
       let first : a ≡ codes "end" =
@@ -196,7 +196,7 @@ end_tested line a b c pairs_digits copies_digits pairs copies p q end are few sm
       parts_joined line a b c are ∙ rw (first, second, third) refl,
   λ is.
       let same : a ∷ b ∷ c ∷ [] ≡ codes "end" ∷ decimal pairs ∷ decimal copies ∷ [] =
-      sym are ∙ ap parts_of is ∙ end_parts pairs copies few small in
+      sym are ∙ ap parts_of is ∙ end_parts pairs copies within_limit small in
       let second : b ≡ decimal pairs = ap (λ (ps : List (List ℕ)). slice_index_or ps 1 []) same in
       let third : c ≡ decimal copies = ap (λ (ps : List (List ℕ)). slice_index_or ps 2 []) same in
       and_from p q (p_is ∙ (bytes_eq-Decides b pairs_digits).1 (second ∙ sym pairs_are))

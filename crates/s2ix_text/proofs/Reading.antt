@@ -47,7 +47,7 @@ lines_of_group most bounded limits es rest group =
     ap lines_of
     (append_assoc (change_line es) (flat_map entry_line es) rest ∙ ap (λ x. x ++ (flat_map entry_line es ++ rest)) (change_with_feed es)
     ∙ append_assoc (change_text (length es)) (10 ∷ []) (flat_map entry_line es ++ rest))
-    ∙ lines_apart (change_text (length es)) (flat_map entry_line es ++ rest) (change_lacks_feed (length es) (omega (arith, group.few)))
+    ∙ lines_apart (change_text (length es)) (flat_map entry_line es ++ rest) (change_lacks_feed (length es) (omega (arith, group.within_limit)))
     ∙ ap (λ (ls : List (List ℕ)). change_text (length es) ∷ ls) (lines_of_entries most bounded es rest group.entries.sides)
 
 pub lines_of_groups : (most : ℕ) → most < 2 ^ 32 → (limits : Limits) (cs : List (List Entry)) (rest : List ℕ) → All (IsGroup most limits) cs
@@ -68,7 +68,7 @@ at_line m n fault same = ap (λ (k : ℕ). let found : Option (ℕ × JournalFau
 -- the text below the group's first line is the lines of these entries and what is left
 pub record IsGroupSoFar (most : ℕ) (limits : Limits) (text : List ℕ) (wanted : ℕ) (es : List Entry) (rest : List ℕ) : Type 0 where
   pub entries : AreEntries most limits es
-  pub few : length es ≤ wanted
+  pub within_limit : length es ≤ wanted
   pub cut : text ≡ flat_map entry_line es ++ rest
 
 pub group_more : (most : ℕ) → most < 2 ^ 32
@@ -80,7 +80,7 @@ group_more most bounded limits text wanted es rest line below e was more cut is 
     let next = next_from most bounded limits (last_pair es) line e is in
     record {
       entries = entries_more most limits es line e was.entries next;
-      few = omega (arith, length_push es e, more);
+      within_limit = omega (arith, length_push es e, more);
       cut =
           was.cut
           ∙ ap (λ x. flat_map entry_line es ++ x)
@@ -149,7 +149,7 @@ wants_memory limits (first ∷ above) lines some = found_from line_fault limits 
 -- the text below the header is the groups of these changes and what is left, which begins with the line of this number
 pub record IsJournalSoFar (most : ℕ) (limits : Limits) (text : List ℕ) (cs : List (List Entry)) (line : ℕ) (rest : List ℕ) : Type 0 where
   pub groups : All (IsGroup most limits) cs
-  pub few : length cs ≤ changes_limit limits
+  pub within_limit : length cs ≤ changes_limit limits
   pub cut : text ≡ flat_map group_text cs ++ rest
   pub number : line ≡ length (flat_map group_lines cs) + 2
   pub small : line ≤ 2 + 2000001 * length cs
@@ -161,7 +161,7 @@ pub journal_standing : (most : ℕ) → most < 2 ^ 32 → (limits : Limits) (hea
 journal_standing most bounded limits header own text cs number rest was =
     let passed =
     groups_passed most bounded limits (lines_down_to header []) 0 cs (lines_of rest) (between_start most header own) was.groups
-    (omega (arith, was.few)) (lines_some rest) in
+    (omega (arith, was.within_limit)) (lines_some rest) in
     let whole : 0 + length cs ≡ length cs = omega arith in (
       ap (λ x. fault_left limits (lines_down_to header []) (lines_of x)) was.cut
           ∙ ap (fault_left limits (lines_down_to header [])) (lines_of_groups most bounded limits cs rest was.groups) ∙ passed.fault,
@@ -260,8 +260,8 @@ unfolding group_text
 journal_more most limits text cs number size rest line below after es was writes cut entries long parts = record {
   groups =
       All-push (IsGroup most limits) cs es was.groups
-      (record { entries = entries; some = omega (arith, writes.some, long); few = omega (arith, writes.few, long) });
-  few = omega (arith, length_push cs es, writes.room);
+      (record { entries = entries; some = omega (arith, writes.some, long); within_limit = omega (arith, writes.within_limit, long) });
+  within_limit = omega (arith, length_push cs es, writes.room);
   cut =
       was.cut
       ∙ ap (λ x. flat_map group_text cs ++ x)
@@ -272,7 +272,7 @@ journal_more most limits text cs number size rest line below after es was writes
       ∙ sym (append_assoc (flat_map group_text cs) (group_text es) after)
       ∙ ap (λ x. x ++ after) (flat_map_more group_text [] cs es);
   number = omega (arith, lines_more cs es, was.number, long);
-  small = omega (arith, length_push cs es, was.small, writes.few);
+  small = omega (arith, length_push cs es, was.small, writes.within_limit);
 }
 
 -- ---- the end line

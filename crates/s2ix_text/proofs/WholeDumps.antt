@@ -52,10 +52,10 @@ sound_left limits header hs (k ∷ ks) is =
     let bag = front_is_dumped limits header hs (k ∷ ks) is in
     let counted : HasCount header k = here_has (HasCount header) hs k ks (counts_are limits header (hs ++ k ∷ ks) is) in
     let small = here_has (λ (h : Held). h.count ≤ count_limit limits) hs k ks is.bag.small in
-    let few : length hs < pairs_limit limits = omega (arith, length-append hs (k ∷ ks), is.bag.few) in
+    let within_limit : length hs < pairs_limit limits = omega (arith, length-append hs (k ∷ ks), is.bag.within_limit) in
     let next =
     next_is limits header hs (line_text k) k bag (line_is_no_end header k counted) (held_of_line header k counted)
-    (next_before hs k ks is.bag.rises) small few in
+    (next_before hs k ks is.bag.rises) small within_limit in
     let With : Collection → Type 0 = λ x. IsDumped limits header x in
     let assoc : hs ++ k ∷ ks ≡ (hs ++ k ∷ []) ++ ks = sym (append_assoc hs (k ∷ []) ks) in
     fault_after_next limits header hs (line_text k)
@@ -67,17 +67,17 @@ sound_left limits header hs (k ∷ ks) is =
 -- the lines of a dump
 lines_written : (header : List ℕ) (ks all : Collection) → All (HasCount header) ks → length all < 2 ^ 64 → copies_in all < 2 ^ 64
     → lines_of (flat_map pair_line ks ++ end_line all) ≡ map line_text ks ++ end_text (length all) (copies_in all) ∷ [] ∷ []
-lines_written header [] all counted few small =
+lines_written header [] all counted within_limit small =
     ap lines_of (end_with_feed all)
-    ∙ lines_apart (end_text (length all) (copies_in all)) [] (end_lacks_feed (length all) (copies_in all) few small)
+    ∙ lines_apart (end_text (length all) (copies_in all)) [] (end_lacks_feed (length all) (copies_in all) within_limit small)
     ∙ ap (λ ls. end_text (length all) (copies_in all) ∷ ls) no_lines
-lines_written header (k ∷ ks) all counted few small =
+lines_written header (k ∷ ks) all counted within_limit small =
     ap lines_of
     (append_assoc (pair_line k) (flat_map pair_line ks) (end_line all)
     ∙ ap (λ x. x ++ (flat_map pair_line ks ++ end_line all)) (line_with_feed k)
     ∙ append_assoc (line_text k) (10 ∷ []) (flat_map pair_line ks ++ end_line all))
     ∙ lines_apart (line_text k) (flat_map pair_line ks ++ end_line all) (line_lacks_feed header k (All-head (HasCount header) k ks counted))
-    ∙ ap (λ ls. line_text k ∷ ls) (lines_written header ks all (All-tail (HasCount header) k ks counted) few small)
+    ∙ ap (λ ls. line_text k ∷ ls) (lines_written header ks all (All-tail (HasCount header) k ks counted) within_limit small)
 
 -- the dump of a collection within the limits, in a version that can hold it, has no fault
 dump_is_sound : (limits : Limits) (version : Version) (hs : Collection) → IsBag (record { limits = limits; held = hs }) → CanHold version hs
@@ -112,7 +112,7 @@ next_at limits header hs line (Ok h) is no_end writes none =
     (λ many. let clash : Some TooManyCopies ≡ None = sym (cond-true _ _ _ (lt-ltb (count_limit limits) h.count many)) ∙ rest in cc)
     (λ small. let last = sym (cond-false _ _ _ (le-ltb (count_limit limits) h.count small)) ∙ rest in
     ⊎_elim
-    (λ few. (h, next_is limits header hs line h is no_end writes before small few))
+    (λ within_limit. (h, next_is limits header hs line h is no_end writes before small within_limit))
     (λ full. let clash : Some TooManyPairs ≡ None = sym (cond-true _ _ _ (le-leb (pairs_limit limits) (length hs) full)) ∙ last in cc)
     (cases_lt (length hs) (pairs_limit limits)))
     (cases_lt (count_limit limits) h.count))
@@ -210,7 +210,7 @@ join_left (k ∷ ks) end =
 
 nothing_dumped : (limits : Limits) (header : List ℕ) → IsDumped limits header []
 nothing_dumped limits header = record {
-  bag = record { rises = tt; few = omega arith; small = λ k d within. absurd (omega arith) };
+  bag = record { rises = tt; within_limit = omega arith; small = λ k d within. absurd (omega arith) };
   written = λ k d within. absurd (omega arith);
 }
 

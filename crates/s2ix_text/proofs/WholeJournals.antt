@@ -39,7 +39,7 @@ use Rattle.s2ix_text.proofs.NextJournalLines.{fault_left, groups_passed}
 writable_group : (version : Version) (limits : Limits) (es : List Entry) → IsGroup (greatest_in version) limits es → IsWritableIn version es
 writable_group version limits es group = record {
   some = group.some;
-  few = group.few;
+  within_limit = group.within_limit;
   small_before = λ k d within. (group.entries.sides k d within).0;
   small_after = λ k d within. (group.entries.sides k d within).1;
 }
@@ -50,12 +50,12 @@ groups_writable version limits cs groups = λ k d within. writable_group version
 
 pub journal_of_groups : (version : Version) (limits : Limits) (cs : List (List Entry)) → All (IsGroup (greatest_in version) limits) cs
     → length cs ≤ changes_limit limits → IsJournal limits cs
-journal_of_groups version limits cs groups few = record {
+journal_of_groups version limits cs groups within_limit = record {
   lists = λ k d within. (groups k d within).entries.list;
   within = record {
     writable = λ k d within. writable version (get_or cs k d) (groups_writable version limits cs groups k d within);
     small = λ k d within. (groups k d within).entries.small;
-    few = few;
+    within_limit = within_limit;
   };
 }
 
@@ -70,7 +70,7 @@ groups_of_journal version limits cs is are = λ k d within.
         small = is.within.small k d within;
       };
       some = held.some;
-      few = held.few;
+      within_limit = held.within_limit;
     }
 
 -- ---- the header
@@ -107,8 +107,8 @@ no_header limits text lines =
 -- ---- a journal has no fault
 
 lines_of_end : (cs : List (List Entry)) → length cs < 2 ^ 64 → lines_of (last_line cs) ≡ end_text (length cs) ∷ [] ∷ []
-lines_of_end cs few =
-    ap lines_of (end_with_feed cs) ∙ lines_apart (end_text (length cs)) [] (end_lacks_feed (length cs) few)
+lines_of_end cs within_limit =
+    ap lines_of (end_with_feed cs) ∙ lines_apart (end_text (length cs)) [] (end_lacks_feed (length cs) within_limit)
     ∙ ap (λ (ls : List (List ℕ)). end_text (length cs) ∷ ls) no_lines
 
 pub journal_is_sound : (limits : Limits) (cs : List (List Entry)) → IsJournal limits cs → (version : Version)
@@ -116,7 +116,7 @@ pub journal_is_sound : (limits : Limits) (cs : List (List Entry)) → IsJournal 
 unfolding journal_in
 journal_is_sound limits cs is version are =
     let groups = groups_of_journal version limits cs is are in
-    let few : length cs ≤ changes_limit limits = is.within.few in
+    let within_limit : length cs ≤ changes_limit limits = is.within.within_limit in
     let all : changes_limit limits ≤ 100000 = limits.in_range.5 in
     let header = journal_header version in
     let most = greatest_in version in
@@ -125,7 +125,7 @@ journal_is_sound limits cs is version are =
     let below = flat_map group_text cs ++ last_line cs in
     let start = between_start most header (greatest_of_version header version named) in
     let passed =
-    groups_passed most bounded limits (lines_down_to header []) 0 cs (lines_of (last_line cs)) start groups (omega (arith, few))
+    groups_passed most bounded limits (lines_down_to header []) 0 cs (lines_of (last_line cs)) start groups (omega (arith, within_limit))
     (lines_some (last_line cs)) in
     let between =
     subst (λ n. IsBetween most (lines_down_to header cs) n) (let whole : 0 + length cs ≡ length cs = omega arith in whole)
@@ -133,22 +133,22 @@ journal_is_sound limits cs is version are =
     below_header limits (header ++ 10 ∷ below) header below version (lines_apart header below (journal_header_lacks_feed version)) named
     ∙ ap (fault_left limits (lines_down_to header [])) (lines_of_groups most bounded limits cs (last_line cs) groups)
     ∙ passed.fault
-    ∙ ap (fault_left limits (lines_down_to header cs)) (lines_of_end cs (omega (arith, few, all)))
+    ∙ ap (fault_left limits (lines_down_to header cs)) (lines_of_end cs (omega (arith, within_limit, all)))
     ∙ nothing_after most limits (lines_down_to header cs) (length cs) (end_text (length cs)) between
-    (end_is_end (length cs) (omega (arith, few, all))) refl
+    (end_is_end (length cs) (omega (arith, within_limit, all))) refl
 
 -- ---- a text without a fault is a journal
 
 -- lines that are a whole journal's
 record IsWhole (most : ℕ) (limits : Limits) (header : List ℕ) (lines : List (List ℕ)) (cs : List (List Entry)) : Type 0 where
   groups : All (IsGroup most limits) cs
-  few : length cs ≤ changes_limit limits
+  within_limit : length cs ≤ changes_limit limits
   are : lines ≡ lines_down_to header cs ++ end_text (length cs) ∷ [] ∷ []
 
 -- lines down to the last of these groups
 record IsOutside (most : ℕ) (limits : Limits) (header : List ℕ) (above : List (List ℕ)) (cs : List (List Entry)) : Type 0 where
   groups : All (IsGroup most limits) cs
-  few : length cs ≤ changes_limit limits
+  within_limit : length cs ≤ changes_limit limits
   are : above ≡ lines_down_to header cs
   between : IsBetween most above (length cs)
 
@@ -201,14 +201,14 @@ front_after_entry most limits header above cs es zero line e is next =
     record {
       entries = entries_more most limits es line e is.entries next;
       some = omega (arith, long);
-      few = omega (arith, long, size);
+      within_limit = omega (arith, long, size);
     } in
     let number : length cs + 1 ≡ length (cs ++ all ∷ []) = omega (arith, length_push cs all) in
     inl (
       cs ++ all ∷ [],
       record {
         groups = All-push (IsGroup most limits) cs all is.groups group;
-        few = omega (arith, length_push cs all, is.room);
+        within_limit = omega (arith, length_push cs all, is.room);
         are =
             entry_lines_more header cs es e above line (length es + suc 0) is.are next.text
             ∙ group_lines_more header cs all (length es + suc 0) long;
@@ -248,7 +248,7 @@ front_after_size : (most : ℕ) (limits : Limits) (header : List ℕ) (above : L
 front_after_size most limits header above cs zero line is no_end writes = absurd (let none = writes.some in omega (arith, none))
 front_after_size most limits header above cs (suc more) line is no_end writes =
     let number : suc more ≡ 0 + suc more = omega arith in
-    let few = writes.few in
+    let within_limit = writes.within_limit in
     inr (
       cs,
       [],
@@ -257,7 +257,7 @@ front_after_size most limits header above cs (suc more) line is no_end writes =
         groups = is.groups;
         room = writes.room;
         entries = no_entries most limits;
-        size = omega (arith, few);
+        size = omega (arith, within_limit);
         are = ap₂ (λ (a : List (List ℕ)) (l : List ℕ). a ++ l ∷ []) is.are (writes.text ∙ ap change_text number);
         inside =
             inside_group most (above ++ line ∷ []) (length cs + 1) (suc more) (some_after_line above line)
@@ -314,7 +314,7 @@ one_line_more most bounded limits header above line last lines (inl outside) non
       cs,
       record {
         groups = is.groups;
-        few = is.few;
+        within_limit = is.within_limit;
         are =
             ap₂ (λ (a ls : List (List ℕ)). a ++ ls) is.are
             (end_left most limits above (length cs) line last lines is.between end same none);
@@ -409,7 +409,7 @@ header_from limits header next lines none =
 
 front_start : (most : ℕ) (limits : Limits) (header : List ℕ) → greatest_count header ≡ most → IsFront most limits header (header ∷ [])
 front_start most limits header own =
-    inl ([], record { groups = λ k d within. absurd (omega arith); few = omega arith; are = refl; between = between_start most header own })
+    inl ([], record { groups = λ k d within. absurd (omega arith); within_limit = omega arith; are = refl; between = between_start most header own })
 
 lines_are_journal : (limits : Limits) (lines : List (List ℕ)) → is_nil lines ≡ false → fault_left limits [] lines ≡ None
     → (version : Version) × (cs : List (List Entry)) × IsWhole (greatest_in version) limits (journal_header version) lines cs
@@ -439,6 +439,6 @@ sound_is_journal limits text none =
     let cs = whole.1 in
     let is = whole.2 in (
       cs,
-      journal_of_groups version limits cs is.groups is.few,
+      journal_of_groups version limits cs is.groups is.within_limit,
       (version, groups_writable version limits cs is.groups, sym (lines_joined text) ∙ ap (join_with_byte 10) is.are ∙ join_whole version cs),
     )

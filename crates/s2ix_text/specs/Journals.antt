@@ -14,7 +14,7 @@ HasCountsWithin limits e = (e.before ≤ count_limit limits) × (e.after ≤ cou
 pub record AreWithin (limits : Limits) (changes : List (List Entry)) : Type 0 where
   pub writable : All IsWritable changes
   pub small : All (λ es. All (HasCountsWithin limits) es) changes
-  pub few : length changes ≤ changes_limit limits
+  pub within_limit : length changes ≤ changes_limit limits
 
 -- what a journal that is read under limits says: changes within them
 pub record IsJournal (limits : Limits) (changes : List (List Entry)) : Type 0 where
@@ -35,9 +35,9 @@ pub record AreEntries (most : ℕ) (limits : Limits) (es : List Entry) : Type 0 
 pub record IsGroup (most : ℕ) (limits : Limits) (es : List Entry) : Type 0 where
   pub entries : AreEntries most limits es
   pub some : 1 ≤ length es
-  pub few : length es ≤ 2000000
+  pub within_limit : length es ≤ 2000000
 
 -- the groups of a journal, as many as the limits allow
 pub record AreGroups (most : ℕ) (limits : Limits) (changes : List (List Entry)) : Type 0 where
   pub groups : All (IsGroup most limits) changes
-  pub few : length changes ≤ changes_limit limits
+  pub within_limit : length changes ≤ changes_limit limits

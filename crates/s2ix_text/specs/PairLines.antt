@@ -63,7 +63,7 @@ pub record IsNext (limits : Limits) (header : List ℕ) (hs : Collection) (line 
 pub record IsCommonFront (most : ℕ) (text : List ℕ) (h : Held) (rest : List ℕ) : Type 0 where
   pub whole : text ≡ line_text h ++ 10 ∷ rest
   pub some : 1 ≤ h.count
-  pub few : h.count ≤ most
+  pub within_limit : h.count ≤ most
   pub count : h.count < 10 ^ 9
   pub label : value_of h.pair.label < 10 ^ 9
   pub long : 16 < length text

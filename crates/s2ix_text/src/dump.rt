@@ -47,9 +47,9 @@ const SHORTEST_LINE: usize = 6;
 
 // Room for as many pairs as a text has line feeds, but no more than the limit, and no more than so many bytes can write.
 #[tactic(auto, using(crate::proofs::Counted::lines_counted))]
-fn room_for(alloc: Global, limits: Limits, text: &[u8]) -> Result<Vec<FlatHeld>, OutOfMemory>
+fn room_for_pairs(alloc: Global, limits: Limits, text: &[u8]) -> Result<Vec<FlatHeld>, OutOfMemory>
     ensures empty { IfOk result (λ room. room.items ≡ []) }
-    ensures few { IfOk result (λ room. vec_capacity room ≤ pairs_limit limits) }
+    ensures within_limit { IfOk result (λ room. vec_capacity room ≤ pairs_limit limits) }
     ensures written { IfOk result (λ room. vec_capacity room * 6 ≤ length text.now) }
     ensures lines { IfOk result (λ room. vec_capacity room < length (lines_of text.now)) }
     ensures asked { length text.now < 6 → IsOk result }
@@ -216,7 +216,7 @@ pub fn read_dump(alloc: Global, text: &[u8], limits: Limits) -> Result<Bag, Dump
             fault: DumpFault::BadHeader,
         });
     };
-    let room = room_for(alloc, limits, below)?;
+    let room = room_for_pairs(alloc, limits, below)?;
     let held = read_below(limits, version, room, below)?;
     Ok(Bag::from_held(alloc, limits, held.as_slice())?)
 }

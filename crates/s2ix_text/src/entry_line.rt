@@ -9,9 +9,9 @@ use crate::parts::four_parts;
 use s2ix_bag_pairs::{Entry, Limits, Pair};
 use s2ix_text_parts::{cell_written, label_written};
 
-// The entry that a line writes with counts up to `most`, or the first fault of its parts.
-fn entry_written(most: u32, line: &[u8]) -> Result<Entry, JournalFault>
-    ensures { result ≡ entry_written most line.now }
+// The entry that a line writes with counts up to `greatest`, or the first fault of its parts.
+fn entry_written(greatest: u32, line: &[u8]) -> Result<Entry, JournalFault>
+    ensures { result ≡ entry_written greatest line.now }
 {
     let Some((token, label, before, after)) = four_parts(line) else {
         return Err(JournalFault::BadLine);
@@ -22,10 +22,10 @@ fn entry_written(most: u32, line: &[u8]) -> Result<Entry, JournalFault>
     let Some(label) = label_written(label) else {
         return Err(JournalFault::BadLabel);
     };
-    let Some(before) = side_written(most, before) else {
+    let Some(before) = side_written(greatest, before) else {
         return Err(JournalFault::BadCount);
     };
-    let Some(after) = side_written(most, after) else {
+    let Some(after) = side_written(greatest, after) else {
         return Err(JournalFault::BadCount);
     };
     Ok(Entry {
@@ -36,7 +36,7 @@ fn entry_written(most: u32, line: &[u8]) -> Result<Entry, JournalFault>
 }
 
 // Whether a pair comes after the last of the entries before, if there is one.
-fn comes_after(before: &[Entry], pair: Pair) -> bool
+fn comes_after_entries(before: &[Entry], pair: Pair) -> bool
     ensures { result ≡ comes_before (last_pair before.now) (Some pair) }
 {
     match before.last() {
@@ -45,20 +45,20 @@ fn comes_after(before: &[Entry], pair: Pair) -> bool
     }
 }
 
-// The entry of the line that follows those of the entries before in its group, with counts up to `most`; or the fault of that line.
+// The entry of the line that follows those of the entries before in its group, with counts up to `greatest`; or the fault of that line.
 pub(crate) fn next_entry(
-    most: u32,
+    greatest: u32,
     limits: Limits,
     before: &[Entry],
     line: &[u8],
 ) -> Result<Entry, JournalFault>
-    ensures { result ≡ next_entry most limits (last_pair before.now) line.now }
+    ensures { result ≡ next_entry greatest limits (last_pair before.now) line.now }
 {
-    let next = entry_written(most, line)?;
+    let next = entry_written(greatest, line)?;
     if next.before == next.after {
         return Err(JournalFault::NoDifference);
     }
-    if !comes_after(before, next.pair) {
+    if !comes_after_entries(before, next.pair) {
         return Err(JournalFault::Unsorted);
     }
     if next.before > limits.count() || next.after > limits.count() {

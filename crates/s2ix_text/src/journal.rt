@@ -32,16 +32,16 @@ fn push(changes: &mut Vec<Change>, next: Change) -> Result<(), AllocError>
     Ok(())
 }
 
-// What is read below the header of a journal whose counts go up to `most`.
+// What is read below the header of a journal whose counts go up to `greatest`.
 fn read_groups(
     alloc: Global,
-    most: u32,
+    greatest: u32,
     limits: Limits,
     text: &[u8],
 ) -> Result<Vec<Change>, JournalError>
-    ensures groups { IfOk result (λ changes. AreGroups most limits changes.items) }
+    ensures groups { IfOk result (λ changes. AreGroups greatest limits changes.items) }
     ensures text { IfOk result (λ changes. text.now ≡ flat_map group_text changes.items ++ last_line changes.items) }
-    ensures refused { (header : List ℕ) → greatest_count header ≡ most
+    ensures refused { (header : List ℕ) → greatest_count header ≡ greatest
         → IfErr result (λ error. IsJournalError error (fault_below line_fault limits (lines_down_to header []) (lines_of text.now))) }
 {
     let mut changes = Vec::new(alloc);
@@ -65,7 +65,14 @@ fn read_groups(
         }
         match next_size(limits, changes.len(), line) {
             Ok(size) => {
-                let (entries, after) = read_group(alloc, most, limits, size, number + 1, below)?;
+                let (entries, after) = read_group(
+                    alloc,
+                    greatest,
+                    limits,
+                    size,
+                    number + 1,
+                    below,
+                )?;
                 push(&mut changes, Change::from_vec(entries))?;
                 number += 1 + size as usize;
                 rest = after;

@@ -8,12 +8,12 @@ const FEWEST_ENTRIES: u32 = 1;
 
 const MOST_ENTRIES: u32 = 2_000_000;
 
-// The count before or after a change, from 0 to `most`, which a text writes.
-pub(crate) fn side_written(most: u32, text: &[u8]) -> Option<u32>
-    ensures { result ≡ side_written most text.now }
+// The count before or after a change, from 0 to `greatest`, which a text writes.
+pub(crate) fn side_written(greatest: u32, text: &[u8]) -> Option<u32>
+    ensures { result ≡ side_written greatest text.now }
 {
     let count = number_written(text)?;
-    if count <= most { Some(count) } else { None }
+    if count <= greatest { Some(count) } else { None }
 }
 
 // The number of entries of a change, from 1 to 2000000, which a text writes.

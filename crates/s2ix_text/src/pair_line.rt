@@ -14,9 +14,9 @@ use s2ix_text_parts::{
 };
 use s2ix_text_write::Version;
 
-// The held pair that a line writes, with a count of at most `most`, or the first fault of its parts.
-fn held_written(most: u32, line: &[u8]) -> Result<Held, DumpFault>
-    ensures { result ≡ held_written most line.now }
+// The held pair that a line writes, with a count of at most `greatest`, or the first fault of its parts.
+fn held_written(greatest: u32, line: &[u8]) -> Result<Held, DumpFault>
+    ensures { result ≡ held_written greatest line.now }
 {
     let Some((token, label, count)) = three_parts(line) else {
         return Err(DumpFault::BadLine);
@@ -27,7 +27,7 @@ fn held_written(most: u32, line: &[u8]) -> Result<Held, DumpFault>
     let Some(label) = label_written(label) else {
         return Err(DumpFault::BadLabel);
     };
-    let Some(count) = count_written(most, count) else {
+    let Some(count) = count_written(greatest, count) else {
         return Err(DumpFault::BadCount);
     };
     Ok(Held {
@@ -37,7 +37,7 @@ fn held_written(most: u32, line: &[u8]) -> Result<Held, DumpFault>
 }
 
 // Whether a pair comes after the last of those before, if there is one.
-fn comes_after(before: &[FlatHeld], pair: Pair) -> bool
+fn comes_after_pairs(before: &[FlatHeld], pair: Pair) -> bool
     ensures { result ≡ comes_before (last_pair before.now) (Some pair) }
 {
     match before.last() {
@@ -59,7 +59,7 @@ pub(crate) fn next_held(
     ensures fault { IfErr result (λ fault. line_fault (place_below limits (dump_header version) before.now line.now) ≡ Some fault) }
 {
     let next = held_written(version.greatest_count(), line)?;
-    if !comes_after(before, next.pair) {
+    if !comes_after_pairs(before, next.pair) {
         return Err(DumpFault::Unsorted);
     }
     if next.count > limits.count() {
@@ -73,17 +73,17 @@ pub(crate) fn next_held(
 
 // The held pair whose line stands at the front of a text, and what is after that line, if it has the common shape.
 #[inline]
-fn held_in_front(most: u32, text: &[u8]) -> Option<(Held, &[u8])>
+fn held_in_front(greatest: u32, text: &[u8]) -> Option<(Held, &[u8])>
     ensures line { IfSome result (λ read. text.now ≡ line_text read.0 ++ 10 ∷ read.1.now) }
     ensures some { IfSome result (λ read. 1 ≤ read.0.count) }
-    ensures few { IfSome result (λ read. read.0.count ≤ most) }
-    ensures none { IfNone result ((held : Held) (rest : List ℕ) → ¬ IsCommonFront most text.now held rest) }
+    ensures within_limit { IfSome result (λ read. read.0.count ≤ greatest) }
+    ensures none { IfNone result ((held : Held) (rest : List ℕ) → ¬ IsCommonFront greatest text.now held rest) }
 {
     let (cell, after) = token_in_front(text)?;
     let (label, after) = number_in_front(after, b' ')?;
     let (count, after) = number_in_front(after, b'\n')?;
     let label = Label::new(label)?;
-    if count == 0 || count > most {
+    if count == 0 || count > greatest {
         return None;
     }
     let held = Held {
@@ -109,7 +109,7 @@ pub(crate) fn next_in_front<'a>(
         → ¬ IsNext limits (dump_header version) before.now (line_text held) held) }
 {
     let (next, after) = held_in_front(version.greatest_count(), text)?;
-    if !comes_after(before, next.pair) || next.count > limits.count() {
+    if !comes_after_pairs(before, next.pair) || next.count > limits.count() {
         return None;
     }
     if before.len() >= limits.pairs() as usize {

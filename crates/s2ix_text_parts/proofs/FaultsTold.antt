@@ -151,7 +151,7 @@ module _ {X F E V : Type 0} {at : ℕ → F → E} {memory : E} {IsError : E →
         wants = λ is none.
             ⊎_elim
             (λ more. never_wanted errors found r bad_header refused is (other_found more none))
-            (λ few. never_wanted errors found r truncated refused is (one_found (omega (arith, few, some))))
+            (λ within_limit. never_wanted errors found r truncated refused is (one_found (omega (arith, within_limit, some))))
             (cases_lt 1 (length (lines_of text)));
         last = λ line is. last_of_text faults limits text line (line_of line truncated refused is);
         of_line = λ line fault is. line_of line fault refused is;

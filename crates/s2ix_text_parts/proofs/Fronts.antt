@@ -100,7 +100,7 @@ decimal_more text place number digit inside all is small next = (
 
 pub lower_fits : (text : List ℕ) (place number : ℕ) → place < 16 → place < length text → All IsLowerHex (take place text)
     → number ≡ digits_value 16 (take place text) → number < 2 ^ 60
-lower_fits text place number few inside lower is =
+lower_fits text place number within_limit inside lower is =
     let below = digits_value-lt 16 (take place text) (all_digits_from_lower (take place text) lower) in
     let long : length (take place text) ≡ place = length-take-le place text (omega arith) in
     let below_pow : number < 16 ^ place = subst (λ k. number < 16 ^ k) long (omega arith) in
@@ -109,10 +109,10 @@ lower_fits text place number few inside lower is =
 
 pub decimal_fits : (text : List ℕ) (place number most : ℕ) → place ≤ most → place < length text → AllDigits 10 (take place text)
     → number ≡ digits_value 10 (take place text) → number < 10 ^ most
-decimal_fits text place number most few inside all is =
+decimal_fits text place number most within_limit inside all is =
     let long : length (take place text) ≡ place = length-take-le place text (omega arith) in
     let below = digits_value_short decimals (take place text) place all (omega arith) in
-    let up : 10 ^ place ≤ 10 ^ most = pow-le-pow_right {n = 10} (omega arith) {i = place} {j = most} few in
+    let up : 10 ^ place ≤ 10 ^ most = pow-le-pow_right {n = 10} (omega arith) {i = place} {j = most} within_limit in
     omega arith
 
 -- ---- the whole front
@@ -135,9 +135,9 @@ other_of_less byte d within less wraps large =
 pub number_of_front : (text : List ℕ) (len number end : ℕ) → 0 < len → len ≤ 9 → len < length text → AllDigits 10 (take len text)
     → number ≡ digits_value 10 (take len text)
     → (get_or text 0 0 ≡ 48 → len ≡ 1) → get_or text len 0 ≡ end → text ≡ decimal number ++ end ∷ drop (len + 1) text
-number_of_front text len number end some few inside all is no_zero here =
+number_of_front text len number end some within_limit inside all is no_zero here =
     let long : length (take len text) ≡ len = length-take-le len text (omega arith) in
-    let fits = decimal_fits text len number 9 few inside all is in
+    let fits = decimal_fits text len number 9 within_limit inside all is in
     let digits : decimal (digits_value 10 (take len text)) ≡ take len text =
     decimal-digits_value decimals (take len text) all (omega arith)
     (λ zero. long ∙ no_zero (sym (get_or-take len text 0 0 some) ∙ zero))
@@ -149,7 +149,7 @@ pub token_of_front : (text : List ℕ) (len number raw : ℕ) → 0 < len → le
     → number ≡ digits_value 16 (take len text)
     → raw ≡ number * 2 ^ (64 - 4 * len) % 2 ^ 64 → IsCellNumber raw → get_or text (len - 1) 0 ≢ 48 → get_or text len 0 ≡ 32
     → text ≡ canonical_token raw ++ 32 ∷ drop (len + 1) text
-token_of_front text len number raw some few inside lower is shifted cell last here =
+token_of_front text len number raw some within_limit inside lower is shifted cell last here =
     let front = take len text in
     let long : length front ≡ len = length-take-le len text (omega arith) in
     let all = all_digits_from_lower front lower in

@@ -22,7 +22,7 @@ after_front (y ∷ xs) ys x = after_front xs ys x
 stops_after : (P : ℕ → Type 0) (front rest : List ℕ) (end len most : ℕ) → All P front → length front ≤ most → ¬ P end → len ≤ most
     → len < length (front ++ end ∷ rest) → All P (take len (front ++ end ∷ rest))
     → (len < most → ¬ P (get_or (front ++ end ∷ rest) len 0)) → len ≡ length front
-stops_after P front rest end len most own short other few inside all stop =
+stops_after P front rest end len most own short other within_limit inside all stop =
     let text = front ++ end ∷ rest in
     ⊎_elim
     (λ early. absurd (stop (omega arith) (subst P (sym (get_or_append_left front (end ∷ rest) 0 len early)) (own len 0 early))))
@@ -50,13 +50,13 @@ no_space_in_hex lower = omega (arith, lower)
 pub token_is_read : (text rest : List ℕ) (len number raw : ℕ) → text ≡ canonical_token raw ++ 32 ∷ rest → IsCellNumber raw → len ≤ 16
     → len < length text → All IsLowerHex (take len text) → number ≡ digits_value 16 (take len text)
     → (len < 16 → ¬ IsLowerHex (get_or text len 0)) → IsTokenRead text len number raw
-token_is_read text rest len number raw is cell few inside lower value stop =
+token_is_read text rest len number raw is cell within_limit inside lower value stop =
     let token = canonical_token raw in
     let whole = token ++ 32 ∷ rest in
     let spells = canonical_spells raw cell in
     let own = lower-canonical_token raw in
     let long : len ≡ length token =
-    stops_after IsLowerHex token rest 32 len 16 own spells.at_most no_space_in_hex few (subst (λ t. len < length t) is inside)
+    stops_after IsLowerHex token rest 32 len 16 own spells.at_most no_space_in_hex within_limit (subst (λ t. len < length t) is inside)
     (subst (λ t. All IsLowerHex (take len t)) is lower)
     (λ early. subst (λ t. ¬ IsLowerHex (get_or t len 0)) is (stop early)) in
     let front : take len text ≡ token = ap (take len) is ∙ take_at token (32 ∷ rest) len (sym long) in
@@ -91,14 +91,14 @@ all_from_digits (d ∷ ds) all = All-cons (λ byte. digit_value byte < 10) d ds 
 pub number_is_read : (text rest : List ℕ) (len end n : ℕ) → text ≡ decimal n ++ end ∷ rest → n < 10 ^ 9 → 10 ≤ digit_value end → len ≤ 9
     → len < length text → AllDigits 10 (take len text)
     → (len < 9 → 10 ≤ digit_value (get_or text len 0)) → IsNumberRead text len end
-number_is_read text rest len end n is small other few inside all stop =
+number_is_read text rest len end n is small other within_limit inside all stop =
     let digits = decimal n in
     let Digit : ℕ → Type 0 = λ byte. digit_value byte < 10 in
     let own = (decimal_is_IsNumeral n (omega arith)).0.1 in
     let short : length digits ≤ 9 = length-decimal-le 9 n (omega arith) small (omega arith) in
     let some = decimal_nonempty n (omega arith) in
     let long : len ≡ length digits =
-    stops_after Digit digits rest end len 9 (all_from_digits digits own) short (λ digit. omega (arith, digit, other)) few
+    stops_after Digit digits rest end len 9 (all_from_digits digits own) short (λ digit. omega (arith, digit, other)) within_limit
     (subst (λ t. len < length t) is inside) (subst (λ t. All Digit (take len t)) is (all_from_digits (take len text) all))
     (λ early. subst (λ t. ¬ Digit (get_or t len 0)) is (λ digit. omega (arith, digit, stop early))) in
     record {

@@ -165,7 +165,7 @@ count_in_range most (Some m) n is =
     (λ low. let clash : None ≡ Some n = sym (count_zero most m low) ∙ is in cc)
     (λ some. ⊎_elim
     (λ high. let clash : None ≡ Some n = sym (count_above most m high) ∙ is in cc)
-    (λ few. let same : Some m ≡ Some n = sym (count_within most m some few) ∙ is in let equal : m ≡ n = cc in
+    (λ within_limit. let same : Some m ≡ Some n = sym (count_within most m some within_limit) ∙ is in let equal : m ≡ n = cc in
     (ap Some equal, omega arith, omega arith))
     (cases_lt most m))
     (cases_lt m 1)

@@ -41,12 +41,12 @@ pub fn label_written(text: &[u8]) -> Option<Label>
     Label::new(number_written(text)?)
 }
 
-/// The count of a pair that is held, from 1 to `most`, which a text writes in canonical digits. O(n) for n bytes.
-pub fn count_written(most: u32, text: &[u8]) -> Option<u32>
-    ensures { result ≡ count_written most text.now }
+/// The count of a pair that is held, from 1 to `greatest`, which a text writes in canonical digits. O(n) for n bytes.
+pub fn count_written(greatest: u32, text: &[u8]) -> Option<u32>
+    ensures { result ≡ count_written greatest text.now }
 {
     let count = number_written(text)?;
-    if count == 0 || count > most {
+    if count == 0 || count > greatest {
         return None;
     }
     Some(count)

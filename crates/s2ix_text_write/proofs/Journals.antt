@@ -138,8 +138,8 @@ one_group es fs r s es_is fs_is same =
     let numbers =
     append_cancel_left (codes "change ") ((decimal (length es) ++ 10 ∷ []) ++ (flat_map entry_line es ++ r))
     ((decimal (length fs) ++ 10 ∷ []) ++ (flat_map entry_line fs ++ s)) texts in
-    let few_es = es_is.few in
-    let few_fs = fs_is.few in
+    let few_es = es_is.within_limit in
+    let few_fs = fs_is.within_limit in
     let number =
     cut_field 10 (decimal (length es)) (decimal (length fs)) [] [] (flat_map entry_line es ++ r) (flat_map entry_line fs ++ s)
     (omega arith) (decimal_graphic _ (omega arith)) (decimal_graphic _ (omega arith)) numbers in
@@ -179,7 +179,7 @@ writable version es is =
     let fits = greatest_fits version in
     record {
       some = is.some;
-      few = is.few;
+      within_limit = is.within_limit;
       small_before = λ k d within. let small = is.small_before k d within in omega (arith, small, fits);
       small_after = λ k d within. let small = is.small_after k d within in omega (arith, small, fits);
     }

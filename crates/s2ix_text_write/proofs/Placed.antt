@@ -102,23 +102,23 @@ below_its_power n small =
     subst (λ x. x < 10 ^ length (decimal n)) numeral.1 (digits_value-lt 10 (decimal n) numeral.0.1)
 
 too_few : (digits k n : ℕ) → digits ≤ k → n < 10 ^ digits → 10 ^ k ≤ n → ⊥
-too_few digits k n few below high = let low : 10 ^ digits ≤ 10 ^ k = pow-le-pow_right (omega arith) few in omega arith
+too_few digits k n within_limit below high = let low : 10 ^ digits ≤ 10 ^ k = pow-le-pow_right (omega arith) within_limit in omega arith
 
 -- a number has more digits than the powers of ten that it reaches
 pub more_digits : (k n : ℕ) → 10 ^ k ≤ n → n < 2 ^ 64 → k < length (decimal n)
 more_digits k n high small =
-    ⊎_elim (λ less. less) (λ few. absurd (too_few (length (decimal n)) k n few (below_its_power n small) high)) (cases_lt k (length (decimal n)))
+    ⊎_elim (λ less. less) (λ within_limit. absurd (too_few (length (decimal n)) k n within_limit (below_its_power n small) high)) (cases_lt k (length (decimal n)))
 
 -- a number between two powers of ten
 pub digits_between : (k n : ℕ) → 10 ^ k ≤ n → n < 10 ^ (k + 1) → n < 2 ^ 64 → k + 1 ≡ length (decimal n)
 digits_between k n high below small =
     let more = more_digits k n high small in
-    let few = length-decimal-le (k + 1) n (omega arith) below small in
+    let within_limit = length-decimal-le (k + 1) n (omega arith) below small in
     omega arith
 
 -- a number below ten
 pub one_digit : (n : ℕ) → n < 10 → 1 ≡ length (decimal n)
 one_digit n below =
     let some = decimal_nonempty n (omega arith) in
-    let few = length-decimal-le 1 n (omega arith) (omega arith) (omega arith) in
+    let within_limit = length-decimal-le 1 n (omega arith) (omega arith) (omega arith) in
     omega arith

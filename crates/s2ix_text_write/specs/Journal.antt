@@ -39,7 +39,7 @@ journal_text changes = journal_in Second changes
 -- a change that a journal can hold in a version
 pub record IsWritableIn (version : Version) (es : List Entry) : Type 0 where
   pub some : 1 ≤ length es
-  pub few : length es ≤ 2000000
+  pub within_limit : length es ≤ 2000000
   pub small_before : All (λ e. e.before ≤ greatest_in version) es
   pub small_after : All (λ e. e.after ≤ greatest_in version) es
 

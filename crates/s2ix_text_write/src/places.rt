@@ -78,7 +78,7 @@ pub(crate) fn number_at(room: &mut [u8], place: usize, number: u64) -> usize
 #[inline]
 fn digits_of(number: u64) -> usize
     ensures digits { result ≡ length (decimal number) }
-    ensures few { result ≤ 20 }
+    ensures at_most { result ≤ 20 }
 {
     match number {
         0..10 => 1,

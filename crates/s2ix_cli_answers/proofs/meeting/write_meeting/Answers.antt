@@ -18,12 +18,12 @@ overflow_add-count g c =
       chain = g.T.RangeTable.chain table;
       borders = g.T.RangeTable.borders table;
     } in
-    let few =
+    let within_limit =
     few_meet shown c.args.target.now
     (record {
       is_collection = g.met.T.RangeTable.is_collection table;
       is_table = g.met.T.RangeTable.is_table table;
-      few = g.met.T.RangeTable.few table;
+      within_limit = g.met.T.RangeTable.within_limit table;
       are_borders = g.met.T.RangeTable.are_borders table;
     }) in
     let within = c.loop-held.invariant.1 in

@@ -29,7 +29,7 @@ overflow_add-count g c =
     c.into_iter-held-iterator.ensures.into_iter_gives c.loop-held.yielded_by c.in-Some.is c.next.ensures.steps in
     let less : length c.loop-held.yielded < length all = turn.0 in
     let within = length_contents (raw_of c.args.leaf) (g.T.RangeTable.pairs c.args.table.now) in
-    let few = g.met.T.RangeTable.few c.args.table.now in
+    let within_limit = g.met.T.RangeTable.within_limit c.args.table.now in
     let is = c.loop-held.invariant.2 in
     omega arith
 

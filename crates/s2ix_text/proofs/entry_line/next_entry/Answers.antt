@@ -12,25 +12,25 @@ pub returns-in_err-next : goal.returns-in_err-next
 returns-in_err-next c =
     let p = err_from_is_err_and c.from_residual.result c.from_residual.ensures.1 in
     rw (p.1, p.2)
-    (sym (next_unless c.args.most c.args.limits (last_pair c.args.before.now) c.args.line.now c.in_err-next.field-0.0
+    (sym (next_unless c.args.greatest c.args.limits (last_pair c.args.before.now) c.args.line.now c.in_err-next.field-0.0
     (sym c.entry_written.ensures ∙ c.in_err-next.was)))
 
 pub returns-then-next : goal.returns-then-next
 returns-then-next c =
-    sym (next_by c.args.most c.args.limits (last_pair c.args.before.now) c.args.line.now c.in_ok-next.next true _ _
+    sym (next_by c.args.greatest c.args.limits (last_pair c.args.before.now) c.args.line.now c.in_ok-next.next true _ _
     (sym c.entry_written.ensures ∙ c.in_ok-next.was) (eq-eqb _ _ c.if-next.true) refl refl)
 
-pub returns-then-not-comes_after : goal.returns-then-not-comes_after
-returns-then-not-comes_after c =
-    sym (next_by c.args.most c.args.limits (last_pair c.args.before.now) c.args.line.now c.in_ok-next.next false false _
+pub returns-then-not-comes_after_entries : goal.returns-then-not-comes_after_entries
+returns-then-not-comes_after_entries c =
+    sym (next_by c.args.greatest c.args.limits (last_pair c.args.before.now) c.args.line.now c.in_ok-next.next false false _
     (sym c.entry_written.ensures ∙ c.in_ok-next.was) (ne_eqb _ _ c.if-next.false)
-    (sym c.comes_after.ensures ∙ c.if-not-comes_after.true) refl)
+    (sym c.comes_after_entries.ensures ∙ c.if-not-comes_after_entries.true) refl)
 
 pub returns-then-next-count : goal.returns-then-next-count
 returns-then-next-count c =
-    sym (next_by c.args.most c.args.limits (last_pair c.args.before.now) c.args.line.now c.in_ok-next.next false true true
+    sym (next_by c.args.greatest c.args.limits (last_pair c.args.before.now) c.args.line.now c.in_ok-next.next false true true
     (sym c.entry_written.ensures ∙ c.in_ok-next.was) (ne_eqb _ _ c.if-next.false)
-    (sym c.comes_after.ensures ∙ c.if-not-comes_after.false)
+    (sym c.comes_after_entries.ensures ∙ c.if-not-comes_after_entries.false)
     (elim c.then-next-count.branch [
       | then-next-count-via-then-next-count w ↦ or_left _ _
           (lt-ltb (count_limit c.args.limits) c.in_ok-next.next.before (omega (arith, w.if-next-count, c.count.ensures)))
@@ -40,8 +40,8 @@ returns-then-next-count c =
 
 pub returns : goal.returns
 returns c =
-    sym (next_by c.args.most c.args.limits (last_pair c.args.before.now) c.args.line.now c.in_ok-next.next false true false
+    sym (next_by c.args.greatest c.args.limits (last_pair c.args.before.now) c.args.line.now c.in_ok-next.next false true false
     (sym c.entry_written.ensures ∙ c.in_ok-next.was) (ne_eqb _ _ c.if-next.false)
-    (sym c.comes_after.ensures ∙ c.if-not-comes_after.false)
+    (sym c.comes_after_entries.ensures ∙ c.if-not-comes_after_entries.false)
     (above_test (count_limit c.args.limits) c.in_ok-next.next.before c.in_ok-next.next.after (λ more. omega (arith, more))
     (λ more. omega (arith, more))))

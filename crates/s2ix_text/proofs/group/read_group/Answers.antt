@@ -16,9 +16,9 @@ pub returns-in_default-clause-refused : goal.returns-in_default-clause-refused
 returns-in_default-clause-refused c =
     let es = c.loop-limits.entries.items in
     λ above groups some number so_far own.
-    let left : length es + (c.args.size - length es) ≡ c.args.size = omega (arith, c.loop-limits.invariant.few) in
+    let left : length es + (c.args.size - length es) ≡ c.args.size = omega (arith, c.loop-limits.invariant.within_limit) in
     let at : c.args.number + c.len-in-loop-limits.result ≡ c.args.number + length es = omega arith in
-    group_truncated c.args.most c.ranges.most.fits c.args.limits above groups c.args.size (c.args.size - length es) c.args.number
+    group_truncated c.args.greatest c.ranges.greatest.fits c.args.limits above groups c.args.size (c.args.size - length es) c.args.number
     (c.args.number + c.len-in-loop-limits.result) c.args.text.now es c.loop-limits.rest.now some number own so_far left at
     c.loop-limits.invariant c.in_default.ensures.none
 
@@ -32,22 +32,22 @@ returns-in-Err-clause-refused c =
     let es = c.loop-limits.entries.items in
     let more : length es + suc (c.args.size - length es - 1) ≡ c.args.size = omega arith in
     let at : c.args.number + c.len-in-loop-limits.result ≡ c.args.number + length es = omega arith in
-    let fault : next_entry c.args.most c.args.limits (last_pair es) c.in-Some.line.now ≡ Err c.in-Err.fault =
-    ap (λ (xs : List Entry). next_entry c.args.most c.args.limits (last_pair xs) c.in-Some.line.now) (sym c.as_slice.ensures.value)
+    let fault : next_entry c.args.greatest c.args.limits (last_pair es) c.in-Some.line.now ≡ Err c.in-Err.fault =
+    ap (λ (xs : List Entry). next_entry c.args.greatest c.args.limits (last_pair xs) c.in-Some.line.now) (sym c.as_slice.ensures.value)
     ∙ sym c.next_entry.ensures ∙ c.in-Err.is in
     λ above groups some number so_far own.
-    group_fault c.args.most c.ranges.most.fits c.args.limits above groups c.args.size (c.args.size - length es - 1) c.args.number
+    group_fault c.args.greatest c.ranges.greatest.fits c.args.limits above groups c.args.size (c.args.size - length es - 1) c.args.number
     (c.args.number + c.len-in-loop-limits.result) c.args.text.now es c.loop-limits.rest.now c.in-Some.line.now c.in-Some.below.now
     c.in-Err.fault some number own so_far more at c.loop-limits.invariant c.in-Some.ensures.line fault
 
 pub loop-limits-preserved : goal.loop-limits-preserved
 loop-limits-preserved c =
     let es = c.loop-limits.entries.items in
-    let next : next_entry c.args.most c.args.limits (last_pair es) c.in-Some.line.now ≡ Ok c.in-Ok.next =
-    ap (λ (xs : List Entry). next_entry c.args.most c.args.limits (last_pair xs) c.in-Some.line.now) (sym c.as_slice.ensures.value)
+    let next : next_entry c.args.greatest c.args.limits (last_pair es) c.in-Some.line.now ≡ Ok c.in-Ok.next =
+    ap (λ (xs : List Entry). next_entry c.args.greatest c.args.limits (last_pair xs) c.in-Some.line.now) (sym c.as_slice.ensures.value)
     ∙ sym c.next_entry.ensures ∙ c.in-Ok.is in
     let more =
-    group_more c.args.most c.ranges.most.fits c.args.limits c.args.text.now c.args.size es c.loop-limits.rest.now c.in-Some.line.now
+    group_more c.args.greatest c.ranges.greatest.fits c.args.limits c.args.text.now c.args.size es c.loop-limits.rest.now c.in-Some.line.now
     c.in-Some.below.now c.in-Ok.next c.loop-limits.invariant (omega arith) c.in-Some.ensures.cut next in
-    subst (λ (xs : List Entry). IsGroupSoFar c.args.most c.args.limits c.args.text.now c.args.size xs c.in-Some.below.now)
+    subst (λ (xs : List Entry). IsGroupSoFar c.args.greatest c.args.limits c.args.text.now c.args.size xs c.in-Some.below.now)
     (sym c.in_ok-push-in-Ok.ensures) more

@@ -17,7 +17,7 @@ returns-then-not-is_end_of-clause-refused c =
     let end : is_end c.in-Some.line.now ≡ true =
     sym (first_test c.in-Some.line.now c.first_part.result.now c.as_slice.result.now (codes "end") c.eq.result c.eq.ensures
     c.first_part.ensures c.as_slice.ensures) ∙ c.if-eq.true in
-    λ header own. journal_bad_end c.args.most c.ranges.most.fits c.args.limits header own c.args.text.now c.loop-line.changes.items
+    λ header own. journal_bad_end c.args.greatest c.ranges.greatest.fits c.args.limits header own c.args.text.now c.loop-line.changes.items
     c.loop-line.number c.len.result c.loop-line.rest.now c.in-Some.line.now c.in-Some.below.now c.loop-line.invariant c.in-Some.ensures.line
     end (omega arith)
     (λ is. iff_false c.is_end_of.ensures c.if-not-is_end_of.true is)
@@ -27,7 +27,7 @@ returns-then-not-is_empty-clause-refused c =
     let end : is_end c.in-Some.line.now ≡ true =
     sym (first_test c.in-Some.line.now c.first_part.result.now c.as_slice.result.now (codes "end") c.eq.result c.eq.ensures
     c.first_part.ensures c.as_slice.ensures) ∙ c.if-eq.true in
-    λ header own. journal_trailing c.args.most c.ranges.most.fits c.args.limits header own c.args.text.now c.loop-line.changes.items
+    λ header own. journal_trailing c.args.greatest c.ranges.greatest.fits c.args.limits header own c.args.text.now c.loop-line.changes.items
     c.loop-line.number c.len.result c.loop-line.rest.now c.in-Some.line.now c.in-Some.below.now c.loop-line.invariant c.in-Some.ensures.line
     end (omega arith)
     (c.is_end_of.ensures.0 c.if-not-is_end_of.false)
@@ -35,7 +35,7 @@ returns-then-not-is_empty-clause-refused c =
 
 pub returns-then-eq-clause-text : goal.returns-then-eq-clause-text
 returns-then-eq-clause-text c =
-    journal_ends c.args.most c.args.limits c.args.text.now c.loop-line.changes.items c.loop-line.number c.len.result c.loop-line.rest.now
+    journal_ends c.args.greatest c.args.limits c.args.text.now c.loop-line.changes.items c.loop-line.number c.len.result c.loop-line.rest.now
     c.in-Some.line.now c.in-Some.below.now c.loop-line.invariant c.in-Some.ensures.cut (omega arith)
     (c.is_end_of.ensures.0 c.if-not-is_end_of.false)
     (none_test c.in-Some.below.now c.is_empty.result c.is_empty.ensures c.if-not-is_empty.false)
@@ -48,7 +48,7 @@ returns-in_err-entries-in-Ok-clause-refused c =
     c.first_part.ensures c.as_slice.ensures) ∙ c.if-eq.false in
     λ header own.
     let begun =
-    group_begins c.args.most c.ranges.most.fits c.args.limits header own c.args.text.now c.loop-line.changes.items c.loop-line.number
+    group_begins c.args.greatest c.ranges.greatest.fits c.args.limits header own c.args.text.now c.loop-line.changes.items c.loop-line.number
     c.len-in-Some.result c.in-Ok.size c.loop-line.rest.now c.in-Some.line.now c.in-Some.below.now c.loop-line.invariant
     c.in-Some.ensures.line no_end (omega arith) (sym c.next_size.ensures ∙ c.in-Ok.is) in
     rw (p.1, p.2)
@@ -68,12 +68,12 @@ loop-line-preserved c =
     group_sized c.args.limits cs c.len-in-Some.result c.in-Ok.size c.in-Some.line.now (omega arith)
     (sym c.next_size.ensures ∙ c.in-Ok.is) in
     let more =
-    journal_more c.args.most c.args.limits c.args.text.now cs c.loop-line.number c.in-Ok.size c.loop-line.rest.now c.in-Some.line.now
+    journal_more c.args.greatest c.args.limits c.args.text.now cs c.loop-line.number c.in-Ok.size c.loop-line.rest.now c.in-Some.line.now
     c.in-Some.below.now c.in_ok-entries-in-Ok.after.now c.in_ok-entries-in-Ok.entries.items c.loop-line.invariant writes
     c.in-Some.ensures.cut c.in_ok-entries-in-Ok.ensures.entries c.in_ok-entries-in-Ok.ensures.size c.in_ok-entries-in-Ok.ensures.text in
     let pushed : c.push.new.changes.items ≡ cs ++ c.in_ok-entries-in-Ok.entries.items ∷ [] =
     c.in_ok-push-in-Ok.ensures ∙ ap (λ (es : List Entry). cs ++ es ∷ []) c.from_vec.ensures in
-    subst (λ (xs : List (List Entry)). IsJournalSoFar c.args.most c.args.limits c.args.text.now xs (c.loop-line.number + (1 + c.in-Ok.size))
+    subst (λ (xs : List (List Entry)). IsJournalSoFar c.args.greatest c.args.limits c.args.text.now xs (c.loop-line.number + (1 + c.in-Ok.size))
     c.in_ok-entries-in-Ok.after.now) (sym pushed) more
 
 pub returns-in-Err-clause-refused : goal.returns-in-Err-clause-refused
@@ -81,11 +81,11 @@ returns-in-Err-clause-refused c =
     let no_end : is_end c.in-Some.line.now ≡ false =
     sym (first_test c.in-Some.line.now c.first_part.result.now c.as_slice.result.now (codes "end") c.eq.result c.eq.ensures
     c.first_part.ensures c.as_slice.ensures) ∙ c.if-eq.false in
-    λ header own. size_fault c.args.most c.ranges.most.fits c.args.limits header own c.args.text.now c.loop-line.changes.items
+    λ header own. size_fault c.args.greatest c.ranges.greatest.fits c.args.limits header own c.args.text.now c.loop-line.changes.items
     c.loop-line.number c.len-in-Some.result c.loop-line.rest.now c.in-Some.line.now c.in-Some.below.now c.in-Err.fault c.loop-line.invariant
     c.in-Some.ensures.line no_end (omega arith) (sym c.next_size.ensures ∙ c.in-Err.is)
 
 pub returns-clause-refused : goal.returns-clause-refused
 returns-clause-refused c =
-    λ header own. journal_truncated c.args.most c.ranges.most.fits c.args.limits header own c.args.text.now c.loop-line.changes.items
+    λ header own. journal_truncated c.args.greatest c.ranges.greatest.fits c.args.limits header own c.args.text.now c.loop-line.changes.items
     c.loop-line.number c.loop-line.rest.now c.loop-line.invariant c.in_default.ensures.none

@@ -13,26 +13,26 @@ returns-in_err-next-clause-fault c =
     c.requires.dumped c.requires.pair
     (read_under c.args.version c.args.line.now _ _ c.greatest_count.ensures c.held_written.ensures ∙ c.in_err-next.was))
 
-pub returns-then-not-comes_after-clause-fault : goal.returns-then-not-comes_after-clause-fault
-returns-then-not-comes_after-clause-fault c =
+pub returns-then-not-comes_after_pairs-clause-fault : goal.returns-then-not-comes_after_pairs-clause-fault
+returns-then-not-comes_after_pairs-clause-fault c =
     unsorted_fault c.args.limits (dump_header c.args.version) c.args.before.now c.args.line.now c.in_ok-next.next c.requires.dumped
     c.requires.pair (read_under c.args.version c.args.line.now _ _ c.greatest_count.ensures c.held_written.ensures ∙ c.in_ok-next.was)
-    (sym c.comes_after.ensures ∙ c.if-not-comes_after.true)
+    (sym c.comes_after_pairs.ensures ∙ c.if-not-comes_after_pairs.true)
 
 pub returns-then-next-count-clause-fault : goal.returns-then-next-count-clause-fault
 returns-then-next-count-clause-fault c =
     copies_fault c.args.limits (dump_header c.args.version) c.args.before.now c.args.line.now c.in_ok-next.next c.requires.dumped
     c.requires.pair (read_under c.args.version c.args.line.now _ _ c.greatest_count.ensures c.held_written.ensures ∙ c.in_ok-next.was)
-    (sym c.comes_after.ensures ∙ c.if-not-comes_after.false) (omega arith)
+    (sym c.comes_after_pairs.ensures ∙ c.if-not-comes_after_pairs.false) (omega arith)
 
 pub returns-then-before-pairs-clause-fault : goal.returns-then-before-pairs-clause-fault
 returns-then-before-pairs-clause-fault c =
     pairs_fault c.args.limits (dump_header c.args.version) c.args.before.now c.args.line.now c.in_ok-next.next c.requires.dumped
     c.requires.pair (read_under c.args.version c.args.line.now _ _ c.greatest_count.ensures c.held_written.ensures ∙ c.in_ok-next.was)
-    (sym c.comes_after.ensures ∙ c.if-not-comes_after.false) (omega arith) (omega arith)
+    (sym c.comes_after_pairs.ensures ∙ c.if-not-comes_after_pairs.false) (omega arith) (omega arith)
 
 pub returns-clause-next : goal.returns-clause-next
 returns-clause-next c =
     next_is c.args.limits (dump_header c.args.version) c.args.before.now c.args.line.now c.in_ok-next.next c.requires.dumped c.requires.pair
     (read_under c.args.version c.args.line.now _ _ c.greatest_count.ensures c.held_written.ensures ∙ c.in_ok-next.was)
-    (sym c.comes_after.ensures ∙ c.if-not-comes_after.false) (omega arith) (omega arith)
+    (sym c.comes_after_pairs.ensures ∙ c.if-not-comes_after_pairs.false) (omega arith) (omega arith)

@@ -5,7 +5,7 @@ use Rattle.s2ix_bag_pairs.specs.declared.pair.Held.{Held}
 use Rattle.s2ix_bag_pairs.specs.declared.pair.Pair.{Pair}
 use Rattle.s2ix_text_parts.specs.Written.{comes_before}
 use Rattle.s2ix_text_parts.proofs.Rests.{last_read}
-use Rattle.s2ix_text.proofs.pair_line.comes_after.Goals as goal
+use Rattle.s2ix_text.proofs.pair_line.comes_after_pairs.Goals as goal
 
 pub returns-in-Some : goal.returns-in-Some
 returns-in-Some c =

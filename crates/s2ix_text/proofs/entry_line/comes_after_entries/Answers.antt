@@ -4,7 +4,7 @@ use Rattle.std.proofs.lemmas.Bool.{ltb_from_iff}
 use Rattle.s2ix_bag_pairs.specs.declared.pair.Entry.{Entry}
 use Rattle.s2ix_text_parts.specs.Written.{comes_before}
 use Rattle.s2ix_text_parts.proofs.Rests.{last_read}
-use Rattle.s2ix_text.proofs.entry_line.comes_after.Goals as goal
+use Rattle.s2ix_text.proofs.entry_line.comes_after_entries.Goals as goal
 
 pub returns-in-Some : goal.returns-in-Some
 returns-in-Some c =
