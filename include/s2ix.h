@@ -6,10 +6,11 @@
    the call says otherwise. A query takes the store out of its handle and puts it back, so the handle isn't const.
 
    A call that gives a list takes a buffer with room for `room` items, and sets *number to how many items the list has. If the buffer has
-   room for all, the call puts them at its front; else the status is S2IX_NO_ROOM and the buffer stays as it was. A call refused for another
-   reason sets *number to 0, with one exception: if a call that takes a list of rows, entries or cells finds a wrong one, *number is the
-   place of the first, counted from 0; with two lists the places count on through the second. s2ix_remove_all and s2ix_record tell the place
-   for further statuses too.
+   room for all, the call puts them at its front; else the status is S2IX_NO_ROOM. Then s2ix_at, s2ix_contents, s2ix_meet and s2ix_labels
+   have filled the buffer with the first items of the list, and the buffer of any other call stays as it was. A call refused for another
+   reason leaves the buffer as it was and sets *number to 0, with one exception: if a call that takes a list of rows, entries or cells finds
+   a wrong one, *number is the place of the first, counted from 0; with two lists the places count on through the second. s2ix_remove_all
+   and s2ix_record tell the place for further statuses too.
 
    A call that gives a list for each of many leaves or targets puts the lists one after the other. ends[k] becomes how many items the lists
    have up to and with that of leaf or target k; `ends` has room for `ends_room` numbers. The call answers leaves or targets in their order,
@@ -30,8 +31,9 @@
    - in s2ix_load, s2ix_replay, s2ix_rewind and s2ix_resume, whatever is wrong after the dump's first line;
    - in s2ix_apply, whatever is wrong after the journal's first line.
 
-   A call wants no memory if it is given no rows, entries or cells, a label that is not held, equal bounds, or a page with no room. The
-   exception is s2ix_line, which may want memory for any query.
+   A call wants no memory if it is given no rows, entries or cells, a label that is not held, equal bounds, or a page with no room. Nor do
+   s2ix_meet and s2ix_meet_from if they are given at most 128 cells that follow one another: the cells rise, and none lies within another, as
+   in each union of S2. The exception is s2ix_line, which may want memory for any query.
 
    You must ensure this, since no call can check it:
 
@@ -87,6 +89,13 @@ typedef struct s2ix_held_label {
     uint32_t pairs;
     uint64_t copies;
 } s2ix_held_label;
+
+/* A range of leaves over which the same pairs lie. */
+typedef struct s2ix_leaf_range {
+    uint64_t start; /* the number of its first leaf */
+    uint64_t limit; /* the first leaf number after it */
+    bool is_empty;  /* whether no pair lies over it */
+} s2ix_leaf_range;
 
 enum s2ix_status {
     S2IX_DONE = 0,
@@ -257,8 +266,8 @@ uint32_t s2ix_labels_at_each(s2ix_handle *handle, const uint64_t *leaves, size_t
                              size_t room, size_t *answered);
 
 /* The pairs that share a leaf with some of the cells, which come in any order, repeated or not. Each pair comes once, by first shared leaf,
-   then falling level, then rising label. O(k + r + t log n) for k pairs over r ranges and t cells, and O(t log t) to sort them.
-   S2IX_CLOSED, S2IX_NO_CELL, S2IX_NO_ROOM, S2IX_OUT_OF_MEMORY. */
+   then falling level, then rising label. O(k + r + t log n) for k pairs over r ranges and t cells, and O(t log t) to sort them unless they
+   rise. Only the cells want memory, and none if they are at most 128 and follow one another. S2IX_CLOSED, S2IX_NO_CELL, S2IX_NO_ROOM, S2IX_OUT_OF_MEMORY. */
 uint32_t s2ix_meet(s2ix_handle *handle, const uint64_t *cells, size_t len, s2ix_row *rows, size_t room, size_t *number);
 
 /* A page of that list: its pairs from the place `from` on, counted from 0, as many as there is room for. It never returns S2IX_NO_ROOM.
@@ -283,12 +292,13 @@ uint32_t s2ix_meet_each(s2ix_handle *handle, const uint64_t *cells, size_t cell_
 uint32_t s2ix_labels_each(s2ix_handle *handle, const uint64_t *cells, size_t cell_count, const size_t *bounds, size_t len, size_t *ends,
                           size_t ends_room, uint32_t *labels, size_t room, size_t *answered);
 
-/* The region of a label: the normal union of its cells, rising. O(n + m log m) for m pairs of the label. S2IX_CLOSED, S2IX_NO_LABEL,
-   S2IX_NO_ROOM, S2IX_OUT_OF_MEMORY. */
+/* The region of a label: the normal union of its cells, rising. It takes what s2ix_of_label does, and O(m log m) for m pairs.
+   S2IX_CLOSED, S2IX_NO_LABEL, S2IX_NO_ROOM, S2IX_OUT_OF_MEMORY. */
 uint32_t s2ix_region(s2ix_handle *handle, uint32_t label, uint64_t *cells, size_t room, size_t *number);
 
-/* The pairs of a label, by rising cell. It does not allocate. O(n) for all n pairs that are held. S2IX_CLOSED, S2IX_NO_LABEL, S2IX_NO_ROOM.
-   */
+/* The pairs of a label, by rising cell. It does not allocate. All pairs lie in parts of a few hundred, each with a filter of its labels:
+   O(p + k) for p parts and the k pairs of those that the filters don't rule out, mostly the parts that have the label, and at worst all.
+   S2IX_CLOSED, S2IX_NO_LABEL, S2IX_NO_ROOM. */
 uint32_t s2ix_of_label(s2ix_handle *handle, uint32_t label, s2ix_row *rows, size_t room, size_t *number);
 
 /* The labels that are held, rising, each once. It does not allocate if no pair is held. O(n log n). S2IX_CLOSED, S2IX_NO_ROOM,
@@ -297,7 +307,8 @@ uint32_t s2ix_held_labels(s2ix_handle *handle, s2ix_held_label *labels, size_t r
 
 /* A page of all pairs, in rising order of cell, then label: those from the place `from` on, counted from 0, as many as there is room for.
    It never returns S2IX_NO_ROOM. *number is how many pairs are put: 0 if there is none at the place. An edit moves the places of the pairs
-   after those that it changes. O(k log n) for k pairs put. S2IX_CLOSED. */
+   after those that it changes. It looks for the first pair, and goes along from there: O(log n + k) for k pairs put, and O(log n) again for
+   each few hundred of them. S2IX_CLOSED. */
 uint32_t s2ix_pairs(s2ix_handle *handle, size_t from, s2ix_row *rows, size_t room, size_t *number);
 
 /* How many copies of a cell are held under a label: 0 if the pair is not held. O(log n). S2IX_CLOSED, S2IX_NO_CELL, S2IX_NO_LABEL. */
@@ -337,6 +348,12 @@ uint32_t s2ix_find(s2ix_handle *handle, uint64_t leaf, size_t *place, uint64_t *
    the call is refused, both numbers are 0 and *is_empty is true. An edit may move the places of ranges. O(log n). S2IX_CLOSED,
    S2IX_NO_RANGE. */
 uint32_t s2ix_range(s2ix_handle *handle, size_t place, uint64_t *start, uint64_t *limit, bool *is_empty);
+
+/* A page of all ranges, in their order: those from the place `from` on, as many as there is room for. It never returns S2IX_NO_ROOM.
+   *number is how many ranges are put: 0 if there is none at the place. A range begins with the `limit` of the one before it. It looks for the
+   first range, and goes along from there: O(log n + k) for k ranges put, and O(log n) again for each few hundred of them. It does not
+   allocate. S2IX_CLOSED. */
+uint32_t s2ix_ranges(s2ix_handle *handle, size_t from, s2ix_leaf_range *ranges, size_t room, size_t *number);
 
 /* Of the pairs over the range at a place, those whose cells begin at the leaf number `from` or later, the innermost cell first, the labels
    of one cell rising. If `from` is 0, these are all of them. If `from` is the *limit of an earlier range, these are the pairs that do not

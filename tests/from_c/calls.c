@@ -1,35 +1,11 @@
 /* Calls each export of the library, with its refusals, and says 'c library: well', or the first lines at which an answer was wrong. */
 #include "blocks.h"
+#include "checks.h"
 #include "s2ix.h"
 
 #include <stdint.h>
 #include <stdio.h>
 #include <string.h>
-
-/* How many calls answer other than they should: of cells and unions, in cells.c; of ranges, in ranges.c; of labels, differences and journals
-   from a change on, in lists.c; of many leaves or targets at once, in each.c; of steps by many rows or entries, in steps.c; of histories, in
-   histories.c; and on several threads, in threads.c. How many fields lie elsewhere, in layout.c; and how often something else is freed than
-   should be, in freed.c. */
-int cell_faults(void);
-int range_faults(void);
-int history_faults(void);
-int list_faults(void);
-int each_faults(void);
-int step_faults(void);
-int thread_faults(void);
-int layout_faults(void);
-int freed_faults(void);
-
-static int faults;
-
-static void expect(int line, long long found, long long wanted) {
-    if (found != wanted) {
-        printf("calls.c:%d: %lld in place of %lld\n", line, found, wanted);
-        faults++;
-    }
-}
-
-#define EXPECT(found, wanted) expect(__LINE__, (long long)(found), (long long)(wanted))
 
 /* Two neighbours on face 0, the face, a leaf below the first, and numbers that are no cells. */
 static const uint64_t first = 0x0400000000000000, second = 0x0c00000000000000, face = 0x1000000000000000, leaf = 0x0400000000000001;
@@ -302,12 +278,12 @@ static void edited_labels(void) {
 
 static void asked_for_labels(s2ix_handle *handle) {
     size_t number;
-    uint32_t labels[3];
+    uint32_t labels[3] = {7, 7, 7};
     uint64_t region[3];
-    EXPECT(s2ix_labels(handle, &face, 1, labels, 2, &number), S2IX_NO_ROOM);
-    EXPECT(number, 3);
     EXPECT(s2ix_labels(handle, &face, 1, labels, 0, &number), S2IX_NO_ROOM);
-    EXPECT(number, 3);
+    EXPECT(number == 3 && labels[0] == 7, true);
+    EXPECT(s2ix_labels(handle, &face, 1, labels, 2, &number), S2IX_NO_ROOM);
+    EXPECT(number == 3 && labels[0] == 3 && labels[1] == 5 && labels[2] == 7, true);
     EXPECT(s2ix_labels(handle, &face, 1, labels, 3, &number), S2IX_DONE);
     EXPECT(labels[0] == 3 && labels[1] == 5 && labels[2] == 9, true);
     EXPECT(s2ix_labels(handle, &face, 0, labels, 0, &number), S2IX_DONE);
@@ -333,9 +309,12 @@ static void asked(void) {
     EXPECT(s2ix_add(&handle, first, 5, 1, &number), S2IX_DONE);
 
     memset(rows, 7, sizeof rows);
-    EXPECT(s2ix_at(&handle, leaf, rows, 2, &number), S2IX_NO_ROOM);
+    EXPECT(s2ix_at(&handle, leaf, rows, 0, &number), S2IX_NO_ROOM);
     EXPECT(number, 3);
     EXPECT(rows[0].label, 0x07070707);
+    EXPECT(s2ix_at(&handle, leaf, rows, 2, &number), S2IX_NO_ROOM);
+    EXPECT(number, 3);
+    EXPECT(rows[0].label == 5 && rows[1].label == 9 && rows[2].label == 0x07070707, true);
     EXPECT(s2ix_at(&handle, leaf, rows, 3, &number), S2IX_DONE);
     EXPECT(number, 3);
     EXPECT(rows[0].cell == first && rows[0].label == 5 && rows[0].count == 1, true);
@@ -348,13 +327,18 @@ static void asked(void) {
     EXPECT(s2ix_at(&handle, 0x5000000000000001, rows, 0, &number), S2IX_DONE);
 
     memset(rows, 7, sizeof rows);
-    EXPECT(s2ix_meet(&handle, both, 2, rows, 2, &number), S2IX_NO_ROOM);
-    EXPECT(number, 3);
-    EXPECT(rows[0].label, 0x07070707);
-    EXPECT(s2ix_meet(&handle, both, 2, rows, 3, &number), S2IX_DONE);
-    EXPECT(rows[2].label, 3);
     EXPECT(s2ix_meet(&handle, both, 2, rows, 0, &number), S2IX_NO_ROOM);
     EXPECT(number, 3);
+    EXPECT(rows[0].label, 0x07070707);
+    EXPECT(s2ix_meet(&handle, both, 2, rows, 2, &number), S2IX_NO_ROOM);
+    EXPECT(number, 3);
+    EXPECT(rows[0].label == 5 && rows[1].label == 9 && rows[2].label == 0x07070707, true);
+    EXPECT(s2ix_meet(&handle, both, 2, rows, 3, &number), S2IX_DONE);
+    EXPECT(rows[2].label == 3 && rows[3].label == 0x07070707, true);
+    EXPECT(s2ix_meet(&handle, &leaf, 1, rows, 2, &number), S2IX_NO_ROOM);
+    EXPECT(number == 3 && rows[0].label == 5 && rows[1].label == 9, true);
+    EXPECT(s2ix_meet(&handle, &leaf, 1, rows, 3, &number), S2IX_DONE);
+    EXPECT(number == 3 && rows[0].cell == first && rows[2].label == 3 && rows[2].count == 2, true);
     EXPECT(s2ix_meet(&handle, both, 0, rows, 0, &number), S2IX_DONE);
     EXPECT(number, 0);
     both[1] = no_cell;
@@ -598,8 +582,16 @@ static void exported(void) {
 }
 
 int main(void) {
-    faults = cell_faults() + range_faults() + list_faults() + each_faults() + step_faults() + history_faults();
-    faults += thread_faults() + layout_faults() + freed_faults();
+    check_cells();
+    check_ranges();
+    check_lists();
+    check_each();
+    check_steps();
+    check_histories();
+    check_threads();
+    check_readers();
+    check_layout();
+    check_freed();
     refused_while_closed();
     untold_while_closed();
     opened();
@@ -617,7 +609,7 @@ int main(void) {
     exported();
     found();
     EXPECT(blocks_held(), 0);
-    if (faults == 0)
+    if (fault_count() == 0)
         printf("c library: well\n");
-    return faults != 0;
+    return fault_count() != 0;
 }

@@ -1,22 +1,9 @@
 /* Calls each export on cells and on unions of cells, with its refusals, and says at which lines an answer was wrong. */
+#include "checks.h"
 #include "s2ix.h"
 
 #include <stdint.h>
-#include <stdio.h>
 #include <string.h>
-
-int cell_faults(void);
-
-static int faults;
-
-static void expect(int line, unsigned long long found, unsigned long long wanted) {
-    if (found != wanted) {
-        printf("cells.c:%d: %llx in place of %llx\n", line, found, wanted);
-        faults++;
-    }
-}
-
-#define EXPECT(found, wanted) expect(__LINE__, (unsigned long long)(found), (unsigned long long)(wanted))
 
 /* Face 0, its four children, its first leaf and the last leaf of face 5, the other end of the curve, and a number that is no cell's. */
 static const uint64_t face = 0x1000000000000000, first_leaf = 1, last_leaf = 0xbfffffffffffffff, curve_end = 0xc000000000000001;
@@ -247,11 +234,10 @@ static void decided(void) {
     EXPECT(count, 0);
 }
 
-int cell_faults(void) {
+void check_cells(void) {
     spelled();
     related();
     squared();
     joined();
     decided();
-    return faults;
 }

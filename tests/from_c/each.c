@@ -1,23 +1,11 @@
 /* Calls the exports that answer many leaves or targets at once, with their refusals, and says at which lines an answer was wrong. The answers
    are compared with those of the calls that take one leaf or one target. */
+#include "checks.h"
 #include "s2ix.h"
 
 #include <stdint.h>
-#include <stdio.h>
 #include <string.h>
 
-int each_faults(void);
-
-static int faults;
-
-static void expect(int line, unsigned long long found, unsigned long long wanted) {
-    if (found != wanted) {
-        printf("each.c:%d: %llx in place of %llx\n", line, found, wanted);
-        faults++;
-    }
-}
-
-#define EXPECT(found, wanted) expect(__LINE__, (unsigned long long)(found), (unsigned long long)(wanted))
 #define COUNT(list) (sizeof(list) / sizeof *(list))
 
 /* Face 0 and its first two children, and a number that is no cell's. */
@@ -104,11 +92,11 @@ static size_t items_of(answer all, size_t answered) { return answered == 0 ? 0 :
 /* Looks that the first leaves or targets have their lists, as they have in an answer of all. */
 static void expect_front(int line, int call, answer given, answer all, uint32_t status, size_t answered) {
     const size_t items = items_of(all, answered);
-    expect(line, given.status, status);
-    expect(line, given.answered, answered);
-    expect(line, memcmp(given.ends, all.ends, answered * sizeof *all.ends), 0);
-    if (is_of_labels(call)) expect(line, memcmp(given.labels, all.labels, items * sizeof *all.labels), 0);
-    else expect(line, memcmp(given.rows, all.rows, items * sizeof *all.rows), 0);
+    expect(__FILE__, line, given.status, status);
+    expect(__FILE__, line, given.answered, answered);
+    expect(__FILE__, line, memcmp(given.ends, all.ends, answered * sizeof *all.ends), 0);
+    if (is_of_labels(call)) expect(__FILE__, line, memcmp(given.labels, all.labels, items * sizeof *all.labels), 0);
+    else expect(__FILE__, line, memcmp(given.rows, all.rows, items * sizeof *all.rows), 0);
 }
 
 #define EXPECT_FRONT(call, given, all, status, answered) expect_front(__LINE__, call, given, all, status, answered)
@@ -289,7 +277,7 @@ static void unchanged(void) {
     s2ix_close(&copy);
 }
 
-int each_faults(void) {
+void check_each(void) {
     refused_while_closed();
     answered();
     wrong_leaves();
@@ -297,5 +285,4 @@ int each_faults(void) {
     wrong_bounds();
     gone_on();
     unchanged();
-    return faults;
 }

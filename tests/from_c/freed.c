@@ -1,19 +1,16 @@
 /* Which memory the library holds: a call that opens an open handle anew frees the store that was there, and s2ix_close and s2ix_clear free
    all that a store had. After a refused call it holds no more than before. */
 #include "blocks.h"
+#include "checks.h"
 #include "s2ix.h"
 
 #include <stdint.h>
 #include <stdio.h>
 
-int freed_faults(void);
-
-static int faults;
-
-static void expect(const char *name, const char *what, long found, long wanted) {
+static void expect_blocks(const char *name, const char *what, long found, long wanted) {
     if (found != wanted) {
         printf("freed.c: %s: %ld blocks %s, in place of %ld\n", name, found, what, wanted);
-        faults++;
+        count_fault();
     }
 }
 
@@ -30,7 +27,7 @@ static void fill(s2ix_handle *handle) {
     size_t number;
     uint32_t wrong = s2ix_open(handle, 1000, 1000, 1000) | s2ix_add_union(handle, both, 2, 7, &number);
     wrong |= s2ix_add(handle, 0x3000000000000000, 9, 1, &number) | s2ix_add(handle, both[0], 8, 2, &number) | s2ix_undo(handle, &number);
-    expect("a store", "short of its changes", wrong, DONE);
+    expect_blocks("a store", "short of its changes", wrong, DONE);
 }
 
 /* Calls that open `to`: `from` is the handle of a store. */
@@ -84,17 +81,17 @@ static void opened_anew(size_t k) {
     s2ix_handle from = {0}, to = {0};
     fill(&from);
     const long without = blocks_held();
-    expect(name, "as its status", openings[k].open(&from, &to), openings[k].status);
+    expect_blocks(name, "as its status", openings[k].open(&from, &to), openings[k].status);
     const long with = blocks_held();
     openings[k].open(&from, &to);
-    expect(name, "held after a second time", blocks_held(), with);
+    expect_blocks(name, "held after a second time", blocks_held(), with);
     s2ix_close(&to);
-    expect(name, "held after its store is closed", blocks_held(), without);
+    expect_blocks(name, "held after its store is closed", blocks_held(), without);
     s2ix_close(&to);
     fill(&to);
     const long filled = blocks_held();
     openings[k].open(&from, &to);
-    expect(name, "held in place of another store", blocks_held(), openings[k].status == S2IX_DONE ? with : filled);
+    expect_blocks(name, "held in place of another store", blocks_held(), openings[k].status == S2IX_DONE ? with : filled);
     s2ix_close(&to);
     s2ix_close(&from);
 }
@@ -106,15 +103,14 @@ static void cleared(void) {
     const long opened = blocks_held();
     fill(&handle);
     s2ix_clear(&handle);
-    expect("clear", "held after it", blocks_held(), opened);
+    expect_blocks("clear", "held after it", blocks_held(), opened);
     s2ix_close(&handle);
 }
 
-int freed_faults(void) {
+void check_freed(void) {
     const long before = blocks_held();
     for (size_t k = 0; k < sizeof openings / sizeof *openings; k++)
         opened_anew(k);
     cleared();
-    expect("all calls", "held after all handles are closed", blocks_held(), before);
-    return faults;
+    expect_blocks("all calls", "held after all handles are closed", blocks_held(), before);
 }

@@ -1,23 +1,10 @@
 /* Calls the exports that read, replay, resume, apply, join and write changes, with their refusals, and says at which lines an answer was
    wrong. */
+#include "checks.h"
 #include "s2ix.h"
 
 #include <stdint.h>
-#include <stdio.h>
 #include <string.h>
-
-int history_faults(void);
-
-static int faults;
-
-static void expect(int line, long long found, long long wanted) {
-    if (found != wanted) {
-        printf("histories.c:%d: %lld in place of %lld\n", line, found, wanted);
-        faults++;
-    }
-}
-
-#define EXPECT(found, wanted) expect(__LINE__, (long long)(found), (long long)(wanted))
 
 /* Two neighbours on face 0, and the face. */
 static const uint64_t first = 0x0400000000000000, second = 0x0c00000000000000, face = 0x1000000000000000;
@@ -284,7 +271,7 @@ static void journalled(void) {
     s2ix_close(&handle);
 }
 
-int history_faults(void) {
+void check_histories(void) {
     changed();
     replayed();
     resumed();
@@ -292,5 +279,4 @@ int history_faults(void) {
     applied();
     joined();
     journalled();
-    return faults;
 }

@@ -1,13 +1,11 @@
 /* How the structs of s2ix.h lie in memory: the place, the size and the type of each field, and that each call reads and writes the right field.
    No two fields of a struct have the same value here, so the test fails if two are exchanged. */
+#include "checks.h"
 #include "s2ix.h"
 
 #include <stddef.h>
 #include <stdint.h>
-#include <stdio.h>
 #include <string.h>
-
-int layout_faults(void);
 
 /* A field lies at a place of its struct, and is of a type. */
 #define FIELD(struct, field, at, type)                                                                                                             \
@@ -32,6 +30,10 @@ FIELD(s2ix_held_label, label, 0, uint32_t);
 FIELD(s2ix_held_label, pairs, 4, uint32_t);
 FIELD(s2ix_held_label, copies, 8, uint64_t);
 SIZE(s2ix_held_label, 16);
+FIELD(s2ix_leaf_range, start, 0, uint64_t);
+FIELD(s2ix_leaf_range, limit, 8, uint64_t);
+FIELD(s2ix_leaf_range, is_empty, 16, bool);
+SIZE(s2ix_leaf_range, 24);
 FIELD(s2ix_square, i, 0, uint32_t);
 FIELD(s2ix_square, j, 4, uint32_t);
 FIELD(s2ix_square, face, 8, uint8_t);
@@ -40,17 +42,6 @@ FIELD(s2ix_square, orientation, 10, uint8_t);
 SIZE(s2ix_square, 12);
 _Static_assert(sizeof(bool) == 1, "a bool is no byte");
 _Static_assert(sizeof(size_t) == sizeof(void *), "a size is no word");
-
-static int faults;
-
-static void expect(int line, long long found, long long wanted) {
-    if (found != wanted) {
-        printf("layout.c:%d: %lld in place of %lld\n", line, found, wanted);
-        faults++;
-    }
-}
-
-#define EXPECT(found, wanted) expect(__LINE__, (long long)(found), (long long)(wanted))
 
 /* The number of some bytes of an object, from a place on. */
 static uint64_t bytes_at(const void *object, size_t at, size_t size) {
@@ -122,6 +113,20 @@ static void rows_and_entries(void) {
     EXPECT(bytes_at(&handle, sizeof(void *), 1), 0);
 }
 
+/* The first range of a store that holds face 1 alone: the leaves before that face, over which no pair lies. */
+static void leaf_ranges(void) {
+    s2ix_handle handle = {0};
+    s2ix_leaf_range first = {7, 7, false};
+    size_t number;
+    EXPECT(s2ix_open(&handle, 10, 10, 10), S2IX_DONE);
+    EXPECT(s2ix_add(&handle, 0x3000000000000000, 9, 1, &number), S2IX_DONE);
+    EXPECT(s2ix_ranges(&handle, 0, &first, 1, &number), S2IX_DONE);
+    EXPECT(bytes_at(&first, 0, 8), 1);
+    EXPECT(bytes_at(&first, 8, 8), 0x2000000000000001);
+    EXPECT(bytes_at(&first, 16, 1), 1);
+    s2ix_close(&handle);
+}
+
 /* The square in column 5 and row 2 of level 3 of face 4. */
 static void squares(void) {
     s2ix_square square = {0};
@@ -139,8 +144,8 @@ static void squares(void) {
     EXPECT(bytes_at(&square, 10, 1), square.orientation);
 }
 
-int layout_faults(void) {
+void check_layout(void) {
     rows_and_entries();
+    leaf_ranges();
     squares();
-    return faults;
 }

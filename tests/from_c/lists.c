@@ -1,23 +1,10 @@
 /* Calls the exports that tell what one store holds beside another, which labels it holds, and its journal from a change on, with their
    refusals, and says at which lines an answer was wrong. */
+#include "checks.h"
 #include "s2ix.h"
 
 #include <stdint.h>
-#include <stdio.h>
 #include <string.h>
-
-int list_faults(void);
-
-static int faults;
-
-static void expect(int line, unsigned long long found, unsigned long long wanted) {
-    if (found != wanted) {
-        printf("lists.c:%d: %llx in place of %llx\n", line, found, wanted);
-        faults++;
-    }
-}
-
-#define EXPECT(found, wanted) expect(__LINE__, (unsigned long long)(found), (unsigned long long)(wanted))
 
 /* Two neighbours on face 0, and the face. */
 static const uint64_t first = 0x0400000000000000, second = 0x0c00000000000000, face = 0x1000000000000000;
@@ -160,11 +147,10 @@ static void compared(void) {
     s2ix_close(&after);
 }
 
-int list_faults(void) {
+void check_lists(void) {
     refused_while_closed();
     journalled();
     followed();
     labelled();
     compared();
-    return faults;
 }

@@ -22,6 +22,7 @@ enum { ROOM = 4096 };
 
 static const uint64_t first = 0x0400000000000000, second = 0x0c00000000000000, face = 0x1000000000000000, leaf = 0x0400000000000001;
 static const uint64_t two[] = {0x0c00000000000000, 0x0400000000000000}, wrong[] = {0x0400000000000000, 6};
+static const uint64_t following[] = {0x0400000000000000, 0x0c00000000000000};
 static const char dump[] = "s2ix 2\n04 7 1\n0400000000000001 8 2\n0c 7 1\nend 3 4\n";
 static const char add_line[] = "add 1 1", meet_line[] = "meet 1";
 /* The first leads on from that dump, the second to it. */
@@ -214,6 +215,25 @@ CALL(compares_with_closed) {
 /* Calls that do not allocate. */
 CALL(of_label) { return (void)other, s2ix_of_label(handle, 7, ROWS, &told->number); }
 CALL(contents) { return (void)other, s2ix_contents(handle, 1, 0, ROWS, &told->number); }
+CALL(meets_leaf) { return (void)other, s2ix_meet(handle, &leaf, 1, ROWS, &told->number); }
+CALL(meets_following) { return (void)other, s2ix_meet(handle, following, 2, ROWS, &told->number); }
+CALL(meets_following_from) { return (void)other, s2ix_meet_from(handle, following, 2, 1, ROWS, &told->number); }
+CALL(meets_each_following) {
+    static const size_t all[] = {0, 2, 2};
+    return (void)other, s2ix_meet_each(handle, following, 2, all, 3, ends, 2, ROWS, &told->number);
+}
+CALL(meets_leaf_from) { return (void)other, s2ix_meet_from(handle, &leaf, 1, 1, ROWS, &told->number); }
+CALL(ranges) {
+    s2ix_leaf_range page[2] = {{0, 0, false}, {0, 0, false}};
+    uint32_t status = s2ix_ranges(handle, 1, page, 2, &told->number);
+    /* (field by field, since the struct has padding) */
+    for (size_t k = 0; k < 2; k++) {
+        told->cells[3 * k] = page[k].start;
+        told->cells[3 * k + 1] = page[k].limit;
+        told->cells[3 * k + 2] = page[k].is_empty;
+    }
+    return (void)other, status;
+}
 CALL(at) { return (void)other, s2ix_at(handle, leaf, ROWS, &told->number); }
 CALL(at_each) { return (void)other, s2ix_at_each(handle, leaves, 3, ends, 3, ROWS, &told->number); }
 CALL(labels_at_each) { return (void)other, s2ix_labels_at_each(handle, leaves, 3, ends, 3, LABELS, &told->number); }
@@ -360,6 +380,12 @@ static const struct {
     {"contents", contents, false},
     {"nothing asked for", asks_for_nothing, false},
     {"no cell", asks_for_no_cell, false},
+    {"meet of a leaf", meets_leaf, false},
+    {"meet_from of a leaf", meets_leaf_from, false},
+    {"meet of cells that follow one another", meets_following, false},
+    {"meet_from of cells that follow one another", meets_following_from, false},
+    {"meet_each of cells that follow one another", meets_each_following, false},
+    {"ranges", ranges, false},
     {"at", at, false},
     {"at_each", at_each, false},
     {"labels_at_each", labels_at_each, false},
@@ -473,8 +499,21 @@ static int refuse(const char *name, call *call, bool allocates, bool is_empty) {
     return refused;
 }
 
+/* How many growths a call asks for, of a store that is empty or has pairs. */
+static long growths_of(call *call, bool is_empty) {
+    s2ix_handle handle = {0}, other = {0};
+    start(&handle, &other, is_empty);
+    make(call, &handle, &other, &given, 0);
+    const long growths = asked;
+    s2ix_close(&handle);
+    s2ix_close(&other);
+    return growths;
+}
+
 int main(void) {
     int refused = 0;
+    expect("meet", 0, "pairs that are met want memory", growths_of(meets, false) == growths_of(meets, true));
+    expect("meet_from", 0, "pairs that are met want memory", growths_of(meets_from, false) == growths_of(meets_from, true));
     for (size_t k = 0; k < sizeof calls / sizeof *calls; k++) {
         int each = refuse(calls[k].name, calls[k].make, calls[k].allocates, false);
         expect(calls[k].name, 0, "a call that doesn't allocate gives up", each == 0 || calls[k].allocates);

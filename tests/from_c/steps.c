@@ -1,21 +1,8 @@
 /* Calls the exports that take the steps of many rows or entries at once, with their refusals, and says at which lines an answer was wrong. */
+#include "checks.h"
 #include "s2ix.h"
 
 #include <stdint.h>
-#include <stdio.h>
-
-int step_faults(void);
-
-static int faults;
-
-static void expect(int line, long long found, long long wanted) {
-    if (found != wanted) {
-        printf("steps.c:%d: %lld in place of %lld\n", line, found, wanted);
-        faults++;
-    }
-}
-
-#define EXPECT(found, wanted) expect(__LINE__, (long long)(found), (long long)(wanted))
 
 /* Two neighbours on face 0, the face, a leaf below the first, and numbers that are no cell's and no label's. */
 static const uint64_t first = 0x0400000000000000, second = 0x0c00000000000000, face = 0x1000000000000000, leaf = 0x0400000000000001;
@@ -137,8 +124,7 @@ static void recorded(void) {
     s2ix_close(&handle);
 }
 
-int step_faults(void) {
+void check_steps(void) {
     removed_at_once();
     recorded();
-    return faults;
 }

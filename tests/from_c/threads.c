@@ -1,33 +1,21 @@
 /* Edits and asks stores on several threads at once, each by a handle of its own: copies of one store, which share memory. Then it hands a
    handle from thread to thread. In the end each store must hold what the same edits make on one thread. It says at which lines an answer
    was wrong. */
+#include "checks.h"
 #include "s2ix.h"
 
 #include <pthread.h>
 #include <stdint.h>
-#include <stdio.h>
 #include <string.h>
-
-int thread_faults(void);
 
 enum { THREADS = 6, ROUNDS = 900, PAIRS = 600, ROOM = 64000 };
 
-/* What a thread has: its handle, its label, and how many answers were other than they should be. */
+/* What a thread has: its handle and its label. */
 typedef struct worker {
     pthread_t thread;
     s2ix_handle handle;
     uint32_t label;
-    int faults;
 } worker;
-
-static void expect(worker *at, int line, long long found, long long wanted) {
-    if (found != wanted) {
-        printf("threads.c:%d: %lld in place of %lld\n", line, found, wanted);
-        at->faults++;
-    }
-}
-
-#define EXPECT(at, found, wanted) expect(at, __LINE__, (long long)(found), (long long)(wanted))
 
 /* The cell of level 10 with a number, all over the six faces. */
 static uint64_t cell_of(size_t number) {
@@ -39,20 +27,20 @@ static void fill(worker *at) {
     size_t number;
     for (size_t i = 0; i < PAIRS; i++)
         rows[i] = (s2ix_row){cell_of(i), (uint32_t)(i % 7), 1};
-    EXPECT(at, s2ix_open(&at->handle, 1000000, 1000, 1000), S2IX_DONE);
-    EXPECT(at, s2ix_add_all(&at->handle, rows, PAIRS, &number), S2IX_DONE);
-    EXPECT(at, number, PAIRS);
+    EXPECT(s2ix_open(&at->handle, 1000000, 1000, 1000), S2IX_DONE);
+    EXPECT(s2ix_add_all(&at->handle, rows, PAIRS, &number), S2IX_DONE);
+    EXPECT(number, PAIRS);
 }
 
 /* Copies a store, and edits and closes the copy. */
 static void edit_copy(worker *at, uint64_t cell) {
     s2ix_handle copy = {0};
     size_t len, number;
-    EXPECT(at, s2ix_len(&at->handle, &len), S2IX_DONE);
-    EXPECT(at, s2ix_copy(&at->handle, &copy), S2IX_DONE);
-    EXPECT(at, s2ix_add(&copy, cell, at->label + 1000, 2, &number), S2IX_DONE);
-    EXPECT(at, s2ix_len(&copy, &number), S2IX_DONE);
-    EXPECT(at, number, len + 1);
+    EXPECT(s2ix_len(&at->handle, &len), S2IX_DONE);
+    EXPECT(s2ix_copy(&at->handle, &copy), S2IX_DONE);
+    EXPECT(s2ix_add(&copy, cell, at->label + 1000, 2, &number), S2IX_DONE);
+    EXPECT(s2ix_len(&copy, &number), S2IX_DONE);
+    EXPECT(number, len + 1);
     s2ix_close(&copy);
 }
 
@@ -64,27 +52,27 @@ static void *work(void *argument) {
     for (size_t round = 0; round < ROUNDS; round++) {
         uint64_t cell = cell_of(round * 13), leaf = cell + 1;
         s2ix_row rows[16];
-        EXPECT(at, s2ix_add(&at->handle, cell, at->label, 3, &number), S2IX_DONE);
-        EXPECT(at, s2ix_count(&at->handle, cell, at->label, &count), S2IX_DONE);
-        EXPECT(at, count, 3);
-        EXPECT(at, s2ix_at(&at->handle, leaf, rows, 16, &number), S2IX_DONE);
-        EXPECT(at, number > 0, true);
+        EXPECT(s2ix_add(&at->handle, cell, at->label, 3, &number), S2IX_DONE);
+        EXPECT(s2ix_count(&at->handle, cell, at->label, &count), S2IX_DONE);
+        EXPECT(count, 3);
+        EXPECT(s2ix_at(&at->handle, leaf, rows, 16, &number), S2IX_DONE);
+        EXPECT(number > 0, true);
         if (round % 10 == 0)
             edit_copy(at, cell);
         if (round % 3 != 0)
-            EXPECT(at, s2ix_undo(&at->handle, &number), S2IX_DONE);
+            EXPECT(s2ix_undo(&at->handle, &number), S2IX_DONE);
     }
     return NULL;
 }
 
-static void start(worker *at, void *(*steps)(void *)) { EXPECT(at, pthread_create(&at->thread, NULL, steps, at), 0); }
+static void start(worker *at, void *(*steps)(void *)) { EXPECT(pthread_create(&at->thread, NULL, steps, at), 0); }
 
-static void end(worker *at) { EXPECT(at, pthread_join(at->thread, NULL), 0); }
+static void end(worker *at) { EXPECT(pthread_join(at->thread, NULL), 0); }
 
 /* A worker's store as a dump, of number bytes. */
 static size_t dumped(worker *at, uint8_t *text) {
     size_t number;
-    EXPECT(at, s2ix_dump(&at->handle, text, ROOM, &number), S2IX_DONE);
+    EXPECT(s2ix_dump(&at->handle, text, ROOM, &number), S2IX_DONE);
     return number;
 }
 
@@ -95,20 +83,18 @@ static void compare(worker *at) {
     fill(&alone);
     work(&alone);
     size_t len = dumped(&alone, wanted);
-    EXPECT(at, alone.faults, 0);
-    EXPECT(at, dumped(at, found), len);
-    EXPECT(at, memcmp(found, wanted, len), 0);
+    EXPECT(dumped(at, found), len);
+    EXPECT(memcmp(found, wanted, len), 0);
     s2ix_close(&alone.handle);
 }
 
 /* One store's copies, on a thread each, while the store itself is edited and closed on this one. */
-static int at_once(void) {
+static void at_once(void) {
     worker first = {.label = 100}, copies[THREADS] = {0};
-    int faults = 0;
     fill(&first);
     for (uint32_t i = 0; i < THREADS; i++) {
         copies[i].label = 101 + i;
-        EXPECT(&copies[i], s2ix_copy(&first.handle, &copies[i].handle), S2IX_DONE);
+        EXPECT(s2ix_copy(&first.handle, &copies[i].handle), S2IX_DONE);
     }
     for (size_t i = 0; i < THREADS; i++)
         start(&copies[i], work);
@@ -119,9 +105,7 @@ static int at_once(void) {
         end(&copies[i]);
         compare(&copies[i]);
         s2ix_close(&copies[i].handle);
-        faults += copies[i].faults;
     }
-    return faults + first.faults;
 }
 
 static void *open_it(void *argument) {
@@ -136,7 +120,7 @@ static void *close_it(void *argument) {
 }
 
 /* A handle that is opened on one thread, used on another and closed on a third. */
-static int handed_on(void) {
+static void handed_on(void) {
     worker at = {.label = 100};
     start(&at, open_it);
     end(&at);
@@ -145,8 +129,10 @@ static int handed_on(void) {
     compare(&at);
     start(&at, close_it);
     end(&at);
-    EXPECT(&at, at.handle.is_open, false);
-    return at.faults;
+    EXPECT(at.handle.is_open, false);
 }
 
-int thread_faults(void) { return at_once() + handed_on(); }
+void check_threads(void) {
+    at_once();
+    handed_on();
+}

@@ -18,14 +18,14 @@ abbrev pub IsCellAt : Path → ℕ → Type 0
 IsCellAt p n = IsCellNumber n × (path_at n ≡ p)
 
 -- a number that a call tells: if what is asked for is there, P holds of the number; else it is 0
-pub record Tells (there : Type 0) (P : ℕ → Type 0) (status told : ℕ) : Type 0 where
-  pub answered : status ≡ done → there × P told
-  pub none : status ≢ done → (status ≡ no_cell) × (told ≡ 0) × (there → ⊥)
+pub record Tells (there : Type 0) (P : ℕ → Type 0) (status number : ℕ) : Type 0 where
+  pub answered : status ≡ done → there × P number
+  pub none : status ≢ done → (status ≡ no_cell) × (number ≡ 0) × (there → ⊥)
 
 -- the number of a cell that a call tells, if there is one; else 0
 abbrev pub TellsCell : Option CellId → ℕ → ℕ → Type 0
-TellsCell (Some cell) status told = (status ≡ done) × (told ≡ raw_of cell)
-TellsCell None status told = (status ≡ no_cell) × (told ≡ 0)
+TellsCell (Some cell) status number = (status ≡ done) × (number ≡ raw_of cell)
+TellsCell None status number = (status ≡ no_cell) × (number ≡ 0)
 
 -- the text of a cell, put to the front of a buffer, which stays as it was past the text; if the number is no cell's, all of it does
 pub record PutsText (id : ℕ) (text : List ℕ) (status number : ℕ) (old new : List ℕ) : Type 0 where

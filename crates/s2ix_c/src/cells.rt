@@ -100,16 +100,16 @@ pub extern "C" fn s2ix_cell_path(cell: u64, text: &mut [u8; 32], number: &mut us
 }
 
 // Tells the number of a cell, if there is one.
-fn tell(found: Option<CellId>, told: &mut u64) -> u32
-    ensures { TellsCell found result told.new }
+fn tell(found: Option<CellId>, number: &mut u64) -> u32
+    ensures { TellsCell found result number.new }
 {
     match found {
         Some(cell) => {
-            *told = cell.raw();
+            *number = cell.raw();
             DONE
         }
         None => {
-            *told = 0;
+            *number = 0;
             NO_CELL
         }
     }
@@ -173,7 +173,7 @@ pub extern "C" fn s2ix_cell_next(cell: u64, next: &mut u64) -> u32
 /// The level of a cell, 0 for a whole face to 30 for a leaf.
 #[unsafe(no_mangle)]
 pub extern "C" fn s2ix_cell_level(cell: u64, level: &mut u8) -> u32
-    ensures { Tells (IsCellNumber cell) (λ told. told ≡ length (path_at cell).digits) result level.new }
+    ensures { Tells (IsCellNumber cell) (λ number. number ≡ length (path_at cell).digits) result level.new }
 {
     let Some(cell) = CellId::from_raw(cell) else {
         *level = 0;
@@ -186,7 +186,7 @@ pub extern "C" fn s2ix_cell_level(cell: u64, level: &mut u8) -> u32
 /// The face of a cell, 0 to 5.
 #[unsafe(no_mangle)]
 pub extern "C" fn s2ix_cell_face(cell: u64, face: &mut u8) -> u32
-    ensures { Tells (IsCellNumber cell) (λ told. told ≡ (path_at cell).face) result face.new }
+    ensures { Tells (IsCellNumber cell) (λ number. number ≡ (path_at cell).face) result face.new }
 {
     let Some(cell) = CellId::from_raw(cell) else {
         *face = 0;

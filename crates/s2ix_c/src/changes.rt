@@ -6,8 +6,8 @@ ghost use Rattle.s2ix_c.specs.Calls.{Through};
 ghost use Rattle.s2ix_c_calls.specs.Changes.{ListsChange};
 ghost use Rattle.s2ix_c_calls.specs.Status.{closed};
 
-use s2ix_c_calls::status::CLOSED;
-use s2ix_c_calls::{EntryRow, Handle, change_store};
+use crate::handles::with_store;
+use s2ix_c_calls::{EntryRow, Handle, calls};
 use std::alloc::Global;
 
 /// The entries of the change with a number, counted from 1 among those that can be undone: by rising cell, then label.
@@ -23,11 +23,10 @@ pub extern "C" fn s2ix_change(
     ensures { Through (λ s t. (t ≡ s) × ListsChange change s result number.new out.old out.new)
         ((result ≡ closed) × (number.new ≡ 0) × (out.new ≡ out.old)) (held_of handle.old) (held_of handle.new) }
 {
-    let Some(store) = handle.take(alloc) else {
-        *number = 0;
-        return CLOSED;
-    };
-    let status = change_store(&store, change, out, number);
-    *handle = Handle::of(alloc, store);
-    status
+    *number = 0;
+    with_store!(
+        alloc,
+        handle,
+        |store| calls::change(&store, change, out, number)
+    )
 }

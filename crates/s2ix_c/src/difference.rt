@@ -8,7 +8,7 @@ ghost use Rattle.s2ix_c_calls.specs.Status.{closed};
 ghost use Rattle.s2ix_c.specs.Difference.{OfBoth};
 
 use s2ix_c_calls::status::CLOSED;
-use s2ix_c_calls::{EntryRow, Handle, difference_store};
+use s2ix_c_calls::{EntryRow, Handle, calls};
 use std::alloc::Global;
 
 /// The entries of the change that leads from the pairs of one store to those of another: exactly the pairs whose counts differ, by rising
@@ -33,7 +33,7 @@ pub extern "C" fn s2ix_difference(
         *before = Handle::of(alloc, first);
         return CLOSED;
     };
-    let status = difference_store(alloc, &first, &second, out, number);
+    let status = calls::difference(alloc, &first, &second, out, number);
     *before = Handle::of(alloc, first);
     *after = Handle::of(alloc, second);
     status

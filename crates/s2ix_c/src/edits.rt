@@ -8,10 +8,10 @@ ghost use Rattle.s2ix_c.specs.Calls.{DoesEdit, DoesRows, DoesUnion, Through};
 ghost use Rattle.s2ix_c_calls.specs.Stores.{IsEdited};
 ghost use Rattle.s2ix_c_calls.specs.Status.{closed};
 
-use s2ix_c_calls::status::CLOSED;
+use crate::handles::with_store;
 use s2ix_c_calls::{
-    Handle, Row, add_of, add_rows, add_union, drop_of, edit_store, grow_of, normalise_of,
-    refuse_rows, refuse_union, relabel_of, remove_of,
+    Handle, Row, add_of, calls, drop_of, grow_of, normalise_of, refuse_rows, refuse_union,
+    relabel_of, remove_of,
 };
 use s2ix_edit_plan::Edit;
 use std::alloc::Global;
@@ -22,13 +22,8 @@ fn edit_handle(alloc: Global, handle: &mut Handle, edit: &Edit, number: &mut usi
     ensures { Through (IsEdited edit.now result number.new) ((result ≡ closed) × (number.new ≡ 0))
         (held_of handle.old) (held_of handle.new) }
 {
-    let Some(mut store) = handle.take(alloc) else {
-        *number = 0;
-        return CLOSED;
-    };
-    let status = edit_store(&mut store, edit, number);
-    *handle = Handle::of(alloc, store);
-    status
+    *number = 0;
+    with_store!(alloc, handle, |store| calls::edit(&mut store, edit, number))
 }
 
 // Carries out what is asked for.
@@ -76,12 +71,12 @@ pub extern "C" fn s2ix_add_all(
 ) -> u32
     ensures { DoesRows rows.now result number.new (held_of handle.old) (held_of handle.new) }
 {
-    let Some(mut store) = handle.take(alloc) else {
-        return refuse_rows(rows, number);
-    };
-    let status = add_rows(alloc, &mut store, rows, number);
-    *handle = Handle::of(alloc, store);
-    status
+    with_store!(
+        alloc,
+        handle,
+        |store| calls::add_all(alloc, &mut store, rows, number),
+        || refuse_rows(rows, number)
+    )
 }
 
 /// Takes copies from the count of a cell under a label.
@@ -112,12 +107,12 @@ pub extern "C" fn s2ix_add_union(
 ) -> u32
     ensures { DoesUnion ids.now label result number.new (held_of handle.old) (held_of handle.new) }
 {
-    let Some(mut store) = handle.take(alloc) else {
-        return refuse_union(ids, label, number);
-    };
-    let status = add_union(alloc, &mut store, ids, label, number);
-    *handle = Handle::of(alloc, store);
-    status
+    with_store!(
+        alloc,
+        handle,
+        |store| calls::add_union(alloc, &mut store, ids, label, number),
+        || refuse_union(ids, label, number)
+    )
 }
 
 /// Takes away all copies of a label's pairs.

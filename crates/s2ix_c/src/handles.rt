@@ -10,11 +10,31 @@ ghost use Rattle.s2ix_c_calls.specs.Stores.{IsCleared};
 ghost use Rattle.s2ix_c_calls.specs.Status.{closed, done, no_dump, no_limits, out_of_memory};
 
 use s2ix_bag_pairs::Limits;
-use s2ix_c_calls::status::{CLOSED, DONE, NO_DUMP, NO_LIMITS, OUT_OF_MEMORY};
-use s2ix_c_calls::{Handle, clear_store};
+use s2ix_c_calls::status::{DONE, NO_DUMP, NO_LIMITS, OUT_OF_MEMORY};
+use s2ix_c_calls::{Handle, calls};
 use s2ix_edit::Store;
 use s2ix_text::{DumpError, read_dump};
 use std::alloc::Global;
+
+// Makes a call with the store of a handle, and gives its status. The handle is closed during the call, and has the store again after it. If
+// the handle was closed before, nothing is called, and the status is that of a closed handle, or what the last argument gives.
+macro_rules! with_store {
+    ($alloc:expr, $handle:expr, |$store:ident| $call:expr) => {
+        with_store!($alloc, $handle, |$store| $call, || s2ix_c_calls::status::CLOSED)
+    };
+    ($alloc:expr, $handle:expr, |$store:ident| $call:expr, || $closed:expr) => {
+        match $handle.take($alloc) {
+            Some(mut $store) => {
+                let status = $call;
+                *$handle = s2ix_c_calls::Handle::of($alloc, $store);
+                status
+            }
+            None => $closed,
+        }
+    };
+}
+
+pub(crate) use with_store;
 
 // Puts a store into a handle.
 pub(crate) fn keep(alloc: Global, handle: &mut Handle, store: Store) -> u32
@@ -100,7 +120,7 @@ pub extern "C" fn s2ix_load(
 }
 
 // A store that starts from what another holds.
-fn copy_store(alloc: Global, store: &Store, copy: &mut Handle) -> u32
+fn copy_into(alloc: Global, store: &Store, copy: &mut Handle) -> u32
     ensures { IsCopied store.now result (held_of copy.old) (held_of copy.new) }
 {
     let Ok(other) = store.copied() else {
@@ -117,12 +137,7 @@ pub extern "C" fn s2ix_copy(alloc: Global, handle: &mut Handle, copy: &mut Handl
     ensures { Through (λ s t. (t ≡ s) × IsCopied s result (held_of copy.old) (held_of copy.new))
         ((result ≡ closed) × (held_of copy.new ≡ held_of copy.old)) (held_of handle.old) (held_of handle.new) }
 {
-    let Some(store) = handle.take(alloc) else {
-        return CLOSED;
-    };
-    let status = copy_store(alloc, &store, copy);
-    *handle = Handle::of(alloc, store);
-    status
+    with_store!(alloc, handle, |store| copy_into(alloc, &store, copy))
 }
 
 /// Drops all pairs and all changes, and keeps the limits: nothing is left to undo or redo.
@@ -131,10 +146,5 @@ pub extern "C" fn s2ix_copy(alloc: Global, handle: &mut Handle, copy: &mut Handl
 pub extern "C" fn s2ix_clear(alloc: Global, handle: &mut Handle) -> u32
     ensures { Through (IsCleared result) (result ≡ closed) (held_of handle.old) (held_of handle.new) }
 {
-    let Some(mut store) = handle.take(alloc) else {
-        return CLOSED;
-    };
-    let status = clear_store(alloc, &mut store);
-    *handle = Handle::of(alloc, store);
-    status
+    with_store!(alloc, handle, |store| calls::clear(alloc, &mut store))
 }

@@ -7,8 +7,8 @@ ghost use Rattle.s2ix_c_calls.specs.Lists.{PutsGathered};
 ghost use Rattle.s2ix_c_calls.specs.Status.{closed};
 ghost use Rattle.s2ix_c.specs.Calls.{Through};
 
-use s2ix_c_calls::status::CLOSED;
-use s2ix_c_calls::{Handle, LabelRow, held_labels_store};
+use crate::handles::with_store;
+use s2ix_c_calls::{Handle, LabelRow, calls};
 use std::alloc::Global;
 
 /// The labels of the held pairs, each once and rising, with how many pairs have it and how many copies these have together.
@@ -23,11 +23,10 @@ pub extern "C" fn s2ix_held_labels(
     ensures { Through (λ s t. (t ≡ s) × PutsGathered (Ok (label_rows s)) result number.new out.old out.new)
         ((result ≡ closed) × (number.new ≡ 0) × (out.new ≡ out.old)) (held_of handle.old) (held_of handle.new) }
 {
-    let Some(store) = handle.take(alloc) else {
-        *number = 0;
-        return CLOSED;
-    };
-    let status = held_labels_store(&store, out, number);
-    *handle = Handle::of(alloc, store);
-    status
+    *number = 0;
+    with_store!(
+        alloc,
+        handle,
+        |store| calls::held_labels(&store, out, number)
+    )
 }

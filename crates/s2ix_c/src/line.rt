@@ -6,8 +6,8 @@ ghost use Rattle.s2ix_c.specs.Calls.{Through};
 ghost use Rattle.s2ix_c_calls.specs.Line.{IsCarriedOut};
 ghost use Rattle.s2ix_c_calls.specs.Status.{closed};
 
-use s2ix_c_calls::status::CLOSED;
-use s2ix_c_calls::{Handle, line_store};
+use crate::handles::with_store;
+use s2ix_c_calls::{Handle, calls};
 use std::alloc::Global;
 
 /// Carries a line of a script out, and puts its answer to the front of `out`; `number` is how many bytes it has. With too little room
@@ -24,11 +24,10 @@ pub extern "C" fn s2ix_line(
     ensures { Through (IsCarriedOut line.now result number.new out.old out.new)
         ((result ≡ closed) × (number.new ≡ 0) × (out.new ≡ out.old)) (held_of handle.old) (held_of handle.new) }
 {
-    let Some(mut store) = handle.take(alloc) else {
-        *number = 0;
-        return CLOSED;
-    };
-    let status = line_store(alloc, &mut store, line, out, number);
-    *handle = Handle::of(alloc, store);
-    status
+    *number = 0;
+    with_store!(
+        alloc,
+        handle,
+        |store| calls::line(alloc, &mut store, line, out, number)
+    )
 }

@@ -3,7 +3,8 @@
 ghost use Rattle.s2ix_c_calls.specs.Handle.{held_of};
 ghost use Rattle.s2ix_c.specs.Calls.{DoesChange};
 
-use s2ix_c_calls::{EntryRow, Handle, record_rows, refuse_change};
+use crate::handles::with_store;
+use s2ix_c_calls::{EntryRow, Handle, calls, refuse_change};
 use std::alloc::Global;
 
 /// Does a change that is given by its entries, as `s2ix_change` puts them, as one step; `number` is how many pairs it has. If an entry's cell
@@ -19,10 +20,10 @@ pub extern "C" fn s2ix_record(
 ) -> u32
     ensures { DoesChange entries.now result number.new (held_of handle.old) (held_of handle.new) }
 {
-    let Some(mut store) = handle.take(alloc) else {
-        return refuse_change(entries, number);
-    };
-    let status = record_rows(alloc, &mut store, entries, number);
-    *handle = Handle::of(alloc, store);
-    status
+    with_store!(
+        alloc,
+        handle,
+        |store| calls::record(alloc, &mut store, entries, number),
+        || refuse_change(entries, number)
+    )
 }

@@ -3,7 +3,8 @@
 ghost use Rattle.s2ix_c_calls.specs.Handle.{held_of};
 ghost use Rattle.s2ix_c.specs.Calls.{DoesRemoval};
 
-use s2ix_c_calls::{Handle, Row, refuse_rows, remove_rows};
+use crate::handles::with_store;
+use s2ix_c_calls::{Handle, Row, calls, refuse_rows};
 use std::alloc::Global;
 
 /// Takes the count of each row from that of its cell under its label, as one change: rows in any order, and repeated or not. If a row's cell
@@ -19,10 +20,10 @@ pub extern "C" fn s2ix_remove_all(
 ) -> u32
     ensures { DoesRemoval rows.now result number.new (held_of handle.old) (held_of handle.new) }
 {
-    let Some(mut store) = handle.take(alloc) else {
-        return refuse_rows(rows, number);
-    };
-    let status = remove_rows(alloc, &mut store, rows, number);
-    *handle = Handle::of(alloc, store);
-    status
+    with_store!(
+        alloc,
+        handle,
+        |store| calls::remove_all(alloc, &mut store, rows, number),
+        || refuse_rows(rows, number)
+    )
 }

@@ -29,7 +29,7 @@ fn keep_bag(alloc: Global, handle: &mut Handle, bag: Bag) -> u32
 
 // Tells what is refused in texts: where, and the status.
 pub(crate) fn tell(error: LedError, place: &mut usize, entry: &mut usize) -> u32
-    ensures told { refused_at result place.new entry.new ≡ refused_by error }
+    ensures refused { refused_at result place.new entry.new ≡ refused_by error }
     ensures status { IsOfTexts result }
 {
     let refused = refused_of(error);

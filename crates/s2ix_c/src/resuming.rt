@@ -8,10 +8,10 @@ ghost use Rattle.s2ix_c_calls.specs.Replaying.{refused_at};
 ghost use Rattle.s2ix_c_calls.specs.Resuming.{IsApplied, OpensResumed, RefusesResumed};
 ghost use Rattle.s2ix_c_calls.specs.Status.{closed, done, no_limits};
 
-use crate::handles::keep;
+use crate::handles::{keep, with_store};
 use crate::replaying::tell;
 use s2ix_bag_pairs::Limits;
-use s2ix_c_calls::status::{CLOSED, DONE, NO_LIMITS};
+use s2ix_c_calls::status::{DONE, NO_LIMITS};
 use s2ix_c_calls::{Handle, apply_text, texts_resumed};
 use s2ix_edit::Store;
 use std::alloc::Global;
@@ -50,7 +50,7 @@ pub extern "C" fn s2ix_resume(
 }
 
 // Does a journal's changes on a store.
-fn apply_store(
+fn apply(
     alloc: Global,
     store: &mut Store,
     journal: &[u8],
@@ -88,13 +88,12 @@ pub extern "C" fn s2ix_apply(
     ensures { Through (IsApplied journal.now result number.new place.new entry.new)
         ((result ≡ closed) × (number.new ≡ 0) × (place.new ≡ 0) × (entry.new ≡ 0)) (held_of handle.old) (held_of handle.new) }
 {
-    let Some(mut store) = handle.take(alloc) else {
-        *number = 0;
-        *place = 0;
-        *entry = 0;
-        return CLOSED;
-    };
-    let status = apply_store(alloc, &mut store, journal, number, place, entry);
-    *handle = Handle::of(alloc, store);
-    status
+    *number = 0;
+    *place = 0;
+    *entry = 0;
+    with_store!(
+        alloc,
+        handle,
+        |store| apply(alloc, &mut store, journal, number, place, entry)
+    )
 }

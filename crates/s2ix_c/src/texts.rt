@@ -1,4 +1,5 @@
 //! What a store holds as a dump or as JSON, and its changes as a journal.
+#![tactic(auto, using(crate::proofs::Through::through_open, crate::proofs::Through::through_closed))]
 
 ghost use Rattle.std.specs.Prelude.{◌≡◌, Ok};
 ghost use Rattle.s2ix_c_calls.specs.Handle.{held_of};
@@ -10,12 +11,11 @@ ghost use Rattle.s2ix_c_calls.specs.Journals.{journal_from};
 ghost use Rattle.s2ix_c_calls.specs.Lists.{Lists};
 ghost use Rattle.s2ix_c_calls.specs.Status.{closed};
 
-use s2ix_c_calls::status::CLOSED;
-use s2ix_c_calls::{Handle, dump_store, export_store, journal_store, journal_store_from};
+use crate::handles::with_store;
+use s2ix_c_calls::{Handle, calls};
 use std::alloc::Global;
 
 /// The dump of what is held, of the second version.
-#[tactic(auto, using(crate::proofs::Through::through_open, crate::proofs::Through::through_closed))]
 #[unsafe(no_mangle)]
 pub extern "C" fn s2ix_dump(
     alloc: Global,
@@ -26,17 +26,15 @@ pub extern "C" fn s2ix_dump(
     ensures { Through (λ s t. (t ≡ s) × Lists (Ok (dump_text s.bag.held)) result number.new out.old out.new)
         ((result ≡ closed) × (number.new ≡ 0) × (out.new ≡ out.old)) (held_of handle.old) (held_of handle.new) }
 {
-    let Some(store) = handle.take(alloc) else {
-        *number = 0;
-        return CLOSED;
-    };
-    let status = dump_store(alloc, &store, out, number);
-    *handle = Handle::of(alloc, store);
-    status
+    *number = 0;
+    with_store!(
+        alloc,
+        handle,
+        |store| calls::dump(alloc, &store, out, number)
+    )
 }
 
 /// The journal of the changes that can be undone, the oldest first, of the second version.
-#[tactic(auto, using(crate::proofs::Through::through_open, crate::proofs::Through::through_closed))]
 #[unsafe(no_mangle)]
 pub extern "C" fn s2ix_journal(
     alloc: Global,
@@ -47,18 +45,16 @@ pub extern "C" fn s2ix_journal(
     ensures { Through (λ s t. (t ≡ s) × Lists (Ok (journal_text s.done)) result number.new out.old out.new)
         ((result ≡ closed) × (number.new ≡ 0) × (out.new ≡ out.old)) (held_of handle.old) (held_of handle.new) }
 {
-    let Some(store) = handle.take(alloc) else {
-        *number = 0;
-        return CLOSED;
-    };
-    let status = journal_store(alloc, &store, out, number);
-    *handle = Handle::of(alloc, store);
-    status
+    *number = 0;
+    with_store!(
+        alloc,
+        handle,
+        |store| calls::journal(alloc, &store, out, number)
+    )
 }
 
 /// The journal of the changes that can be undone, from the one with a number on, counted from 1, of the second version. The number after the
 /// last is that of the journal of no changes.
-#[tactic(auto, using(crate::proofs::Through::through_open, crate::proofs::Through::through_closed))]
 #[unsafe(no_mangle)]
 pub extern "C" fn s2ix_journal_from(
     alloc: Global,
@@ -70,17 +66,15 @@ pub extern "C" fn s2ix_journal_from(
     ensures { Through (λ s t. (t ≡ s) × Lists (journal_from change s) result number.new out.old out.new)
         ((result ≡ closed) × (number.new ≡ 0) × (out.new ≡ out.old)) (held_of handle.old) (held_of handle.new) }
 {
-    let Some(store) = handle.take(alloc) else {
-        *number = 0;
-        return CLOSED;
-    };
-    let status = journal_store_from(alloc, &store, change, out, number);
-    *handle = Handle::of(alloc, store);
-    status
+    *number = 0;
+    with_store!(
+        alloc,
+        handle,
+        |store| calls::journal_from(alloc, &store, change, out, number)
+    )
 }
 
 /// The export of what is held: one line of compact JSON, without a line feed.
-#[tactic(auto, using(crate::proofs::Through::through_open, crate::proofs::Through::through_closed))]
 #[unsafe(no_mangle)]
 pub extern "C" fn s2ix_export(
     alloc: Global,
@@ -91,11 +85,10 @@ pub extern "C" fn s2ix_export(
     ensures { Through (λ s t. (t ≡ s) × Lists (Ok (export_text s.bag.held)) result number.new out.old out.new)
         ((result ≡ closed) × (number.new ≡ 0) × (out.new ≡ out.old)) (held_of handle.old) (held_of handle.new) }
 {
-    let Some(store) = handle.take(alloc) else {
-        *number = 0;
-        return CLOSED;
-    };
-    let status = export_store(alloc, &store, out, number);
-    *handle = Handle::of(alloc, store);
-    status
+    *number = 0;
+    with_store!(
+        alloc,
+        handle,
+        |store| calls::export(alloc, &store, out, number)
+    )
 }

@@ -9,17 +9,17 @@ use Rattle.s2ix_bag_pairs.specs.Label.{value_of}
 use Rattle.s2ix_bag_pairs.specs.OfLabel.{held_of}
 use Rattle.s2ix_bag_pairs.specs.declared.label.Label.{Label}
 use Rattle.std.specs.Prelude.{◌==◌}
+use Rattle.s2id_core.specs.declared.cell_id.CellId.{CellId}
 use Rattle.s2ix_table_walk.specs.InOrder.{Rises}
+use Rattle.s2ix_table_walk.specs.Meeting.{is_met_from, meeting_from, meeting_key, meeting_of}
+use Rattle.s2ix_table_walk.proofs.InOrder.{length_choice}
 use Rattle.s2ix_table_walk.specs.Contents.{contents_at, depth_key}
 use Rattle.s2ix_table_walk.specs.Table.{Range, range_at, IsRangeTable}
-use Rattle.s2ix_table_walk.proofs.Over.{IsOver, every_content, contents_rise, length_contents, nested_over}
+use Rattle.s2ix_table_walk.proofs.Over.{IsOver, every_content, contents_rise, length_contents, nested_over, span_of}
 use Rattle.s2ix_table_walk.specs.Walking.{front_from}
 use Rattle.s2ix_table_walk.proofs.Meetings.{front_here, front_stops}
-use Rattle.std.proofs.lemmas.List.{length-map}
-use Rattle.s2ix_c_calls.specs.declared.rows.Row.{Row}
-use Rattle.s2ix_c_calls.specs.Lists.{IsPut, row_of}
+use Rattle.s2ix_c_calls.specs.Lists.{row_of}
 use Rattle.s2ix_c_calls.specs.Ranges.{begun_from}
-use Rattle.s2ix_c_calls.specs.Status.{done}
 
 -- of pairs over one leaf, those further out than one that begins before a leaf begin before it too
 none_begun : (q from : ℕ) (h : Held) (hs : Collection) → IsOver h q → AllByRecursion (λ a. IsOver a q) hs
@@ -51,38 +51,43 @@ front_of_range held ranges place from table within =
     (front_is_begun start from (contents_at start held) (every_content (λ a. IsOver a start) start held (λ h c over. over)) (contents_rise start held))
 
 -- no more pairs lie over a range than there are
-pub few_in_range : (held : Collection) (ranges : List Range) (place : ℕ) → IsRangeTable held ranges → place < length ranges
+pub in_range_at_most : (held : Collection) (ranges : List Range) (place : ℕ) → IsRangeTable held ranges → place < length ranges
     → length (range_at ranges place).contents ≤ length held
-few_in_range held ranges place table within =
+in_range_at_most held ranges place table within =
     let start = (range_at ranges place).start in
     let same = table.shared place start within (table.odd place within) (omega arith) (table.rises place within) in
     subst (λ (cs : Collection). length cs ≤ length held) same (length_contents start held)
 
+-- no more pairs meet a target than there are
+pub met_at_most : (target : List CellId) (held : Collection) → length (meeting_of target held) ≤ length held
+unfolding meeting_from
+met_at_most target held = length_choice (is_met_from target 1) (meeting_key target) held
+
 -- no more pairs have a label than there are
-pub few_of_label : (label : Label) (hs : Collection) → length (held_of label hs) ≤ length hs
-few_of_label label [] = omega arith
-few_of_label label (h ∷ hs) =
-    let rest = few_of_label label hs in
+pub of_label_at_most : (label : Label) (hs : Collection) → length (held_of label hs) ≤ length hs
+of_label_at_most label [] = omega arith
+of_label_at_most label (h ∷ hs) =
+    let rest = of_label_at_most label hs in
     cond_both (value_of h.pair.label == value_of label) (h ∷ held_of label hs) (held_of label hs) (λ ks. length ks ≤ suc (length hs)) (λ _. omega arith) (λ _. omega arith)
 
 -- ---- how many are counted of a chain, and how many are still to be: one more, one that begins before, and none left
 
-pub count_grows : (from many whole : ℕ) (chain rest outer : Collection) (h : Held) → chain ≡ h ∷ rest → outer ≡ rest → from ≤ first_of h.pair.cell
-    → many + length (front_from from chain) ≡ whole → many + 1 + length (front_from from outer) ≡ whole
-count_grows from many whole chain rest outer h is same late all =
+pub count_grows : (from count whole : ℕ) (chain rest outer : Collection) (h : Held) → chain ≡ h ∷ rest → outer ≡ rest → from ≤ first_of h.pair.cell
+    → count + length (front_from from chain) ≡ whole → count + 1 + length (front_from from outer) ≡ whole
+count_grows from count whole chain rest outer h is same late all =
     let here = ap length (ap (front_from from) is ∙ front_here from h rest late) in
     let left = ap (λ r. length (front_from from r)) same in
     omega (arith, here, left, all)
 
-pub count_ends : (from many whole : ℕ) (chain rest : Collection) (h : Held) → chain ≡ h ∷ rest → first_of h.pair.cell < from
-    → many + length (front_from from chain) ≡ whole → many ≡ whole
-count_ends from many whole chain rest h is early all =
+pub count_ends : (from count whole : ℕ) (chain rest : Collection) (h : Held) → chain ≡ h ∷ rest → first_of h.pair.cell < from
+    → count + length (front_from from chain) ≡ whole → count ≡ whole
+count_ends from count whole chain rest h is early all =
     let none = ap length (ap (front_from from) is ∙ front_stops from h rest early) in
     omega (arith, none, all)
 
-pub count_is_whole : (from many whole : ℕ) (chain : Collection) → chain ≡ [] → many + length (front_from from chain) ≡ whole → many ≡ whole
+pub count_is_whole : (from count whole : ℕ) (chain : Collection) → chain ≡ [] → count + length (front_from from chain) ≡ whole → count ≡ whole
 unfolding front_from
-count_is_whole from many whole chain none all =
+count_is_whole from count whole chain none all =
     let left : length (front_from from chain) ≡ 0 = ap (λ c. length (front_from from c)) none in
     omega (arith, left, all)
 
@@ -95,27 +100,27 @@ front_short from (h ∷ hs) =
       | inr late ↦ let here = ap length (front_here from h hs late) in let rest = front_short from hs in omega (arith, here, rest)
     ]
 
--- the front of a chain is taken of it
-pub front_is_taken : (from : ℕ) (hs : Collection) → front_from from hs ≡ take (length (front_from from hs)) hs
+-- no pair begins before the first leaf
+pub front_all : (from : ℕ) (hs : Collection) → from ≤ 1 → front_from from hs ≡ hs
 unfolding front_from
-front_is_taken from [] = refl
-front_is_taken from (h ∷ hs) =
-    elim (cases_lt (first_of h.pair.cell) from) [
-      | inl early ↦
-          let none = front_stops from h hs early in none ∙ sym (ap (λ l. take (length l) (h ∷ hs)) none)
-      | inr late ↦
-          let here = front_here from h hs late in
-          here ∙ ap (λ l. h ∷ l) (front_is_taken from hs) ∙ sym (ap (λ l. take (length l) (h ∷ hs)) here)
-    ]
+front_all from [] first = refl
+front_all from (h ∷ hs) first =
+    let begins = (span_of h).begins in front_here from h hs (omega arith) ∙ ap (λ l. h ∷ l) (front_all from hs first)
 
-pub puts_begun : (from many : ℕ) (chain contents : Collection) (old new : List Row) → many ≡ length (front_from from chain)
-    → front_from from chain ≡ begun_from from contents → take many new ≡ map row_of (take many chain) → drop many new ≡ drop many old
-    → IsPut (map row_of (begun_from from contents)) done many old new
-puts_begun from many chain contents old new counted begun front after =
-    let taken : take many chain ≡ begun_from from contents =
-    ap (λ n. take n chain) counted ∙ sym (front_is_taken from chain) ∙ begun in record {
-      long = counted ∙ ap length begun ∙ sym (length-map (begun_from from contents) row_of);
-      put = λ _. front ∙ ap (map row_of) taken;
-      after = λ _. after;
-      short = λ refused. absurd (refused refl);
-    }
+pub front_none : (from : ℕ) → front_from from [] ≡ []
+unfolding front_from
+front_none from = refl
+
+-- ---- the rows of a chain go out: one more, one that begins before, and none left
+
+pub chain_goes_on : (from : ℕ) (chain rest outer : Collection) (h : Held) → chain ≡ h ∷ rest → outer ≡ rest → from ≤ first_of h.pair.cell
+    → map row_of (front_from from chain) ≡ row_of h ∷ map row_of (front_from from outer)
+chain_goes_on from chain rest outer h is same late =
+    ap (map row_of) (ap (front_from from) is ∙ front_here from h rest late) ∙ ap (λ r. row_of h ∷ map row_of (front_from from r)) (sym same)
+
+pub chain_stops : (from : ℕ) (chain rest : Collection) (h : Held) → chain ≡ h ∷ rest → first_of h.pair.cell < from
+    → front_from from chain ≡ front_from from []
+chain_stops from chain rest h is early = ap (front_from from) is ∙ front_stops from h rest early ∙ sym (front_none from)
+
+pub shorter_chain : (chain rest outer : Collection) (h : Held) (limit : ℕ) → chain ≡ h ∷ rest → outer ≡ rest → length chain ≤ limit → length outer ≤ limit
+shorter_chain chain rest outer h limit is same short = omega (arith, ap length is, ap length same)

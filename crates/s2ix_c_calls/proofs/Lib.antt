@@ -4,6 +4,14 @@ mod Answered
 mod Paging
 mod Targets
 mod Begun
+mod Behind
+mod Filling
+mod Linked
+mod Follows
+mod OfRanges
+pub mod OneLeaf
+pub mod MeetsLeaf
+mod MeetsTarget
 mod Fresh
 mod StatusTexts
 pub mod OfRows

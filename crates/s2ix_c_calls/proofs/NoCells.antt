@@ -22,7 +22,7 @@ use Rattle.s2ix_table_walk.specs.Meeting.{first_shared, is_met_from, meeting_fro
 use Rattle.s2ix_edit_plan.specs.Region.{cell_of, region_of}
 use Rattle.s2ix_edit_plan.specs.State.{State}
 use Rattle.s2ix_c_calls.specs.Asked.{AreAllCells, IsFirstNoCell}
-use Rattle.s2ix_c_calls.specs.Lists.{IsPut, ListsOf, PutsGathered, labels_met, region_cells, row_of, rows_met, rows_met_from}
+use Rattle.s2ix_c_calls.specs.Lists.{FillsOf, IsFilled, IsPut, ListsOf, PutsGathered, labels_met, region_cells, row_of, rows_met, rows_met_from}
 use Rattle.s2ix_c_calls.specs.Status.{done, no_cell, out_of_memory}
 use Rattle.s2ix_c_calls.proofs.Paging.{nothing_of}
 
@@ -119,6 +119,15 @@ module _ {A : Type 0} (old : List A) where
     after = λ _. refl;
     short = λ refused. absurd (refused refl);
   }
+
+  pub fill_nothing : (list : List A) → list ≡ [] → IsFilled list done 0 old old
+  fill_nothing list none =
+      let put = put_nothing list none in
+      record { long = put.long; put = put.put; after = put.after; short = λ refused. absurd (refused refl) }
+
+  pub fills_nothing : (list : List CellId → List A) (ids : List ℕ) → length ids ≡ 0 → list [] ≡ [] → FillsOf list ids done 0 old old
+  fills_nothing list [] none is = inl ([], refl, fill_nothing (list []) is)
+  fills_nothing list (id ∷ ids) none is = absurd (omega (arith, none))
 
   pub lists_nothing : (list : List CellId → List A) (ids : List ℕ) → length ids ≡ 0 → list [] ≡ [] → ListsOf list ids done 0 old old
   lists_nothing list [] none is = inl ([], refl, put_nothing (list []) is)

@@ -6,7 +6,7 @@ use Rattle.std.proofs.Math.Seq.{take-append-add}
 use Rattle.s2id_core.specs.declared.cell_id.CellId.{CellId}
 use Rattle.s2ix_c_calls.specs.Asked.{AreCells, LacksUnion}
 use Rattle.s2ix_c_calls.specs.Each.{AreMet, IsNext, IsTarget, PutsNext, target_begin, target_count, target_end, target_ids}
-use Rattle.s2ix_c_calls.specs.Lists.{IsPut, ListsOf}
+use Rattle.s2ix_c_calls.specs.Lists.{FillsOf, IsFilled}
 use Rattle.s2ix_c_calls.specs.Status.{done, out_of_memory}
 use Rattle.s2ix_c_calls.proofs.OfNumbers.{lacks_cell}
 
@@ -17,7 +17,7 @@ module _ {A : Type 0} (from : ℕ) (old was part rest new : List A) (within : fr
   stays_before : take from new ≡ take from old
   stays_before = ap (take from) is ∙ take_at (take from old) (part ++ rest) from (length-take-le from old within)
 
-  put_behind : (list : List A) (number : ℕ) → IsPut list done number was part → IsNext list from (from + number) old new
+  put_behind : (list : List A) (number : ℕ) → IsFilled list done number was part → IsNext list from (from + number) old new
   put_behind list number put =
       let front = put.put refl in
       let short : number ≤ length part = omega (arith, ap length front, put.long, length-take number part) in record {
@@ -30,7 +30,7 @@ module _ {A : Type 0} (from : ℕ) (old was part rest new : List A) (within : fr
       }
 
   module _ (list : List CellId → List A) (ids : List ℕ) (status number to : ℕ) (moved : status ≡ done → to ≡ from + number) where
-    puts_list : (cells : List CellId) → AreCells ids cells → IsPut (list cells) status number was part → PutsNext list ids status from to old new
+    puts_list : (cells : List CellId) → AreCells ids cells → IsFilled (list cells) status number was part → PutsNext list ids status from to old new
     puts_list cells are put =
         elim (cases_eq status done) [
           | inl is_done ↦ record {
@@ -39,7 +39,7 @@ module _ {A : Type 0} (from : ℕ) (old was part rest new : List A) (within : fr
               cells,
               are,
               subst (λ (n : ℕ). IsNext (list cells) from n old new) (sym (moved is_done))
-                  (put_behind (list cells) number (subst (λ (s : ℕ). IsPut (list cells) s number was part) is_done put)),
+                  (put_behind (list cells) number (subst (λ (s : ℕ). IsFilled (list cells) s number was part) is_done put)),
             );
             wrong_cell = λ e. absurd (omega arith);
             memory = λ e. absurd (omega arith);
@@ -80,7 +80,7 @@ module _ {A : Type 0} (from : ℕ) (old was part rest new : List A) (within : fr
               }
         ]
 
-    pub puts_next : ListsOf list ids status number was part → (status ≡ out_of_memory → ids ≢ []) → PutsNext list ids status from to old new
+    pub puts_next : FillsOf list ids status number was part → (status ≡ out_of_memory → ids ≢ []) → PutsNext list ids status from to old new
     puts_next lists some =
         elim lists [
           | inl put ↦ puts_list put.0 put.1 put.2
@@ -92,7 +92,7 @@ module _ {A : Type 0} (from : ℕ) (old was part rest new : List A) (within : fr
 -- so many targets are answered, and where the list of the next one will begin
 pub record HasMet {A : Type 0} (list : List CellId → List A) (ids bounds : List ℕ) (answered count : ℕ) (ends : List ℕ) (out : List A) : Type 0 where
   pub targets : List (List CellId)
-  pub many : answered ≡ length targets
+  pub places : answered ≡ length targets
   pub front : AreMet list ids bounds targets ends out
   pub counted : count ≡ length (flat_map list targets)
   pub room : count ≤ length out
@@ -101,7 +101,7 @@ pub record HasMet {A : Type 0} (list : List CellId → List A) (ids bounds : Lis
 pub nothing_met : {A : Type 0} (list : List CellId → List A) (ids bounds ends : List ℕ) (out : List A) → HasMet list ids bounds 0 0 ends out
 nothing_met list ids bounds ends out = record {
   targets = [];
-  many = refl;
+  places = refl;
   front = record { asked = λ k less. absurd (omega arith); listed = omega arith; counted = λ k less. absurd (omega arith); put = refl };
   counted = refl;
   room = omega arith;
@@ -109,7 +109,7 @@ nothing_met list ids bounds ends out = record {
 }
 
 module _ {A : Type 0} (list : List CellId → List A) (ids bounds : List ℕ) (targets : List (List CellId)) (cells : List CellId) (ends : List ℕ)
-    (old new : List A) (place count to : ℕ) (many : place ≡ length targets) (counted : count ≡ length (flat_map list targets))
+    (old new : List A) (place count to : ℕ) (places : place ≡ length targets) (counted : count ≡ length (flat_map list targets))
     (front : AreMet list ids bounds targets ends old) (next : IsNext (list cells) count to old new) where
   more : List (List CellId)
   more = targets ++ cells ∷ []
@@ -131,7 +131,7 @@ module _ {A : Type 0} (list : List CellId → List A) (ids bounds : List ℕ) (t
       elim (cases_eq k place) [
         | inl is ↦
             let there : get_or more k [] ≡ cells =
-            ap (λ n. get_or more n []) (is ∙ many ∙ omega arith) ∙ get_or-append-add targets (cells ∷ []) 0 [] in
+            ap (λ n. get_or more n []) (is ∙ places ∙ omega arith) ∙ get_or-append-add targets (cells ∷ []) 0 [] in
             subst (λ (n : ℕ). IsTarget ids bounds n (get_or more k [])) (sym is) (subst (λ (t : List CellId). IsTarget ids bounds place t) (sym there) target)
         | inr other ↦
             let before : k < length targets = omega (arith, one_longer) in
@@ -177,8 +177,8 @@ module _ {A : Type 0} (list : List CellId → List A) (ids bounds : List ℕ) (a
       let next = put.2 in
       let long = length-append met.targets (put.0 ∷ []) in record {
         targets = met.targets ++ put.0 ∷ [];
-        many = omega (arith, met.many, long);
-        front = target_more list ids bounds met.targets put.0 ends out new answered count to met.many met.counted met.front next has_end
+        places = omega (arith, met.places, long);
+        front = target_more list ids bounds met.targets put.0 ends out new answered count to met.places met.counted met.front next has_end
             (is_target put.0 put.1);
         counted = next.counted ∙ omega (
           arith,

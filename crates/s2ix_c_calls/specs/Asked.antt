@@ -1,9 +1,11 @@
 -- What numbers ask for.
-use Rattle.std.specs.Prelude.{◌≡◌, ◌⊎◌, ℕ, List, map, take, slice_get, All, Contains, Option, Some, None, Result, Ok, Err, IsOk}
+use Rattle.std.specs.Prelude.{◌≡◌, ◌≢◌, ◌⊎◌, ℕ, ◌≤◌, length, List, [], ◌∷◌, map, take, slice_get, All, Contains, Option, Some, None, Result, Ok, Err, IsOk}
 use Rattle.s2id_core.specs.declared.cell_id.CellId.{CellId}
 use Rattle.s2id_core.specs.Cell.{IsCellNumber}
-use Rattle.s2id_core.specs.CellId.{raw_of}
+use Rattle.s2id_core.specs.CellId.{level_of, raw_of}
 use Rattle.s2id_core.specs.Spelled.{cell_numbered}
+use Rattle.s2id_union.specs.Covers.{FollowOneAnother}
+use Rattle.s2id_union.specs.Region.{HaveSameRegion}
 use Rattle.s2ix_bag_pairs.specs.declared.label.Label.{Label}
 use Rattle.s2ix_bag_pairs.specs.declared.pair.Held.{Held}
 use Rattle.s2ix_bag_pairs.specs.declared.pair.Pair.{Pair}
@@ -16,6 +18,26 @@ use Rattle.s2ix_c_calls.specs.Status.{no_cell, no_label, out_of_memory}
 -- the numbers are those of these cells
 abbrev pub AreCells : List ℕ → List CellId → Type 0
 AreCells ids cells = map raw_of cells ≡ ids
+
+-- the numbers are that of one leaf
+abbrev pub IsOneLeaf : List ℕ → Type 0
+IsOneLeaf ids = (leaf : CellId) × (level_of leaf ≡ 30) × AreCells ids (leaf ∷ [])
+
+-- the numbers are those of cells that follow one another along the curve, none within another: at least one and at most 128
+pub record AreFollowing (ids : List ℕ) : Type 0 where
+  pub cells : List CellId
+  pub are : AreCells ids cells
+  pub follow : FollowOneAnother cells
+  pub some : ids ≢ []
+  pub at_most : length ids ≤ 128
+
+-- a union is made of the cells with these numbers: there are some, and they don't follow one another, or are more than 128
+abbrev pub NeedUnion : List ℕ → Type 0
+NeedUnion ids = (ids ≢ []) × (AreFollowing ids → ⊥)
+
+-- cells have the leaves of those with these numbers
+abbrev pub AreTarget : List ℕ → List CellId → Type 0
+AreTarget ids target = (cells : List CellId) × AreCells ids cells × HaveSameRegion target cells
 
 -- one of the numbers is no cell's
 abbrev pub LacksCell : List ℕ → Type 0

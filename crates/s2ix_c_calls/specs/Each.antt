@@ -77,7 +77,7 @@ pub record LacksRoomAfter {A : Type 0} (list : List CellId → List A) (ids boun
 -- targets are answered from the first one on, and the status says why the next one is not
 pub record AnswersTargets {A : Type 0} (list : List CellId → List A) (ids bounds : List ℕ) (status answered : ℕ) (ends_old ends_new : List ℕ) (old new : List A) : Type 0 where
   pub targets : List (List CellId)
-  pub many : answered ≡ length targets
+  pub count : answered ≡ length targets
   pub front : AreMet list ids bounds targets ends_new new
   pub all : status ≡ done → answered ≡ target_count bounds
   pub wrong_bounds : status ≡ no_span → IsNoSpan ids bounds answered

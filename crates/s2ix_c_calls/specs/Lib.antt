@@ -2,6 +2,7 @@ pub mod Address
 pub mod Handle
 pub mod InBuffer
 pub mod Status
+pub mod Targets
 pub mod Stores
 pub mod Asked
 pub mod Lists

@@ -34,6 +34,14 @@ pub record IsPut {A : Type 0} (list : List A) (status number : ℕ) (old new : L
   pub after : status ≡ done → drop number new ≡ drop number old
   pub short : status ≢ done → (status ≡ no_room) × (length old < number) × (new ≡ old)
 
+-- a list, put to the front of a buffer as far as that has room for it. Past the list the buffer stays as it was; if the buffer is too short, it
+-- is full of the list's front, and the number says how long the list is
+pub record IsFilled {A : Type 0} (list : List A) (status number : ℕ) (old new : List A) : Type 0 where
+  pub long : number ≡ length list
+  pub put : status ≡ done → take number new ≡ list
+  pub after : status ≡ done → drop number new ≡ drop number old
+  pub short : status ≢ done → (status ≡ no_room) × (length old < number) × (new ≡ take (length old) list)
+
 -- a list that is refused
 abbrev pub IsRefused : {A : Type 0} → ℕ → ℕ → ℕ → List A → List A → Type 0
 IsRefused why status number old new = (status ≡ why) × (number ≡ 0) × (new ≡ old)
@@ -43,7 +51,12 @@ abbrev pub Puts : {A : Type 0} → Result (List A) ℕ → ℕ → ℕ → List 
 Puts (Ok list) status number old new = IsPut list status number old new
 Puts (Err why) status number old new = IsRefused why status number old new
 
--- the same, but want of memory may be told in place of a list
+-- the same for a list that goes out as far as there is room
+abbrev pub Fills : {A : Type 0} → Result (List A) ℕ → ℕ → ℕ → List A → List A → Type 0
+Fills (Ok list) status number old new = IsFilled list status number old new
+Fills (Err why) status number old new = IsRefused why status number old new
+
+-- the same for a list in one piece, but want of memory may be told in place of it
 abbrev pub Lists : {A : Type 0} → Result (List A) ℕ → ℕ → ℕ → List A → List A → Type 0
 Lists (Ok list) status number old new = IsPut list status number old new ⊎ IsRefused out_of_memory status number old new
 Lists (Err why) status number old new = IsRefused why status number old new
@@ -80,11 +93,17 @@ abbrev pub Counts : Result Pair ℕ → State → ℕ → ℕ → Type 0
 Counts (Ok pair) s status count = (status ≡ done) × (count ≡ count_in s.bag.held pair)
 Counts (Err why) s status count = (status ≡ why) × (count ≡ 0)
 
--- a list made of the union of the cells with these numbers, in a buffer, or why there is none. The union and most lists are gathered before
--- they are put, so want of memory may be told in place of a buffer that is too short, but never in place of a number that is no cell's
+-- a list made of the union of the cells with these numbers, in a buffer, or why there is none. The union is made before the buffer is
+-- tested, so want of memory may come in place of a buffer that is too short, but never in place of a number that is no cell's
 abbrev pub ListsOf : {A : Type 0} → (List CellId → List A) → List ℕ → ℕ → ℕ → List A → List A → Type 0
 ListsOf list ids status number old new =
     ((cells : List CellId) × AreCells ids cells × IsPut (list cells) status number old new)
+    ⊎ (LacksUnion ids status number × (new ≡ old))
+
+-- the same for a list that goes out as far as there is room
+abbrev pub FillsOf : {A : Type 0} → (List CellId → List A) → List ℕ → ℕ → ℕ → List A → List A → Type 0
+FillsOf list ids status number old new =
+    ((cells : List CellId) × AreCells ids cells × IsFilled (list cells) status number old new)
     ⊎ (LacksUnion ids status number × (new ≡ old))
 
 -- the pairs of a label

@@ -1,5 +1,5 @@
 -- Ranges of leaves that a call finds or reads.
-use Rattle.std.specs.Prelude.{◌≡◌, ◌≢◌, ◌↔◌, ℕ, ◌<◌, ◌≤◌, nat_le, nat_lt, if◌then◌else◌, Bool, IsTrue, Option, Some, None, Result, Ok, Err, List, [], length, map}
+use Rattle.std.specs.Prelude.{◌≡◌, ◌≢◌, ◌↔◌, ℕ, ◌<◌, ◌≤◌, ◌==◌, nat_le, nat_lt, if◌then◌else◌, Bool, IsTrue, Option, Some, None, Result, Ok, Err, List, [], length, map, take, drop}
 use Rattle.std.specs.List.{filter}
 use Rattle.s2id_core.specs.declared.cell_id.CellId.{CellId}
 use Rattle.s2id_core.specs.CellId.{raw_of, first_of}
@@ -8,7 +8,8 @@ use Rattle.s2ix_table_walk.specs.RangeList.{range_table}
 use Rattle.s2ix_table_walk.specs.Table.{Range, range_at}
 use Rattle.s2ix_edit_plan.specs.State.{State}
 use Rattle.s2ix_c_calls.specs.declared.rows.Row.{Row}
-use Rattle.s2ix_c_calls.specs.Lists.{row_of}
+use Rattle.s2ix_c_calls.specs.declared.ranges.LeafRange.{LeafRange}
+use Rattle.s2ix_c_calls.specs.Lists.{IsPut, row_of}
 use Rattle.s2ix_c_calls.specs.Status.{done, no_cell, no_range}
 
 -- the range at a place, which has a leaf
@@ -34,6 +35,15 @@ pub record ReadsRange (place : ℕ) (ranges : List Range) (status start limit : 
       → (status ≡ done) × (start ≡ (range_at ranges place).start) × (limit ≡ (range_at ranges place).limit)
   pub contents : place < length ranges → IsTrue is_empty ↔ IsEmptyAt ranges place
   pub refused : length ranges ≤ place → (status ≡ no_range) × (start ≡ 0) × (limit ≡ 0) × IsTrue is_empty
+
+-- a range as C sees it
+abbrev pub leaf_range_of : Range → LeafRange
+leaf_range_of r = record { start = r.start; limit = r.limit; is_empty = length r.contents == 0 }
+
+-- the ranges from a place on, as many as a buffer has room for, are put to its front
+abbrev pub PutsRanges : ℕ → List Range → ℕ → ℕ → List LeafRange → List LeafRange → Type 0
+PutsRanges from ranges status number old new =
+    (status ≡ done) × IsPut (map leaf_range_of (take (length old) (drop from ranges))) status number old new
 
 -- the pairs whose cells begin at a leaf number or later
 abbrev pub begun_from : ℕ → Collection → Collection

@@ -1,92 +1,43 @@
-//! The pairs over a leaf or a range, put into a buffer of the caller straight from the chain of a table, with no list between them.
+//! The pairs over a leaf or a range, put into a buffer of the caller straight from the chain of a table, with no list between them. A chain is
+//! gone along once: its rows go out while there is room, and only those that have none are counted.
 
-ghost use Rattle.std.specs.Prelude.{◌≡◌, ◌<◌, ◌≤◌, ℕ, Some, length, map, take, drop};
+ghost use Rattle.std.specs.Prelude.{◌≡◌, ◌+◌, ◌<◌, ◌≤◌, ◌++◌, ℕ, None, Some, length, map, take, drop};
 ghost use Rattle.s2id_core.specs.CellId.{level_of, raw_of};
+ghost use Rattle.s2ix_bag_pairs.specs.Collection.{Collection};
 ghost use Rattle.s2ix_table_walk.specs.Contents.{contents_at};
+ghost use Rattle.s2ix_table_walk.specs.Links.{AreLinked};
 ghost use Rattle.s2ix_table_walk.specs.Table.{range_at};
 ghost use Rattle.s2ix_table_walk.specs.Places.{IsPlace, from_place};
 ghost use Rattle.s2ix_table_walk.specs.Walking.{front_from};
-ghost use Rattle.s2ix_c_calls.specs.Lists.{IsPut, row_of};
+ghost use Rattle.s2ix_c_calls.specs.Lists.{IsFilled, IsPut, row_of};
 ghost use Rattle.s2ix_c_calls.specs.Ranges.{begun_from};
+ghost use Rattle.s2ix_c_calls.specs.Status.{done};
 
 use crate::rows::{Row, row_for};
 use crate::status::{DONE, NO_ROOM};
 use s2id_core::CellId;
-use s2ix_table_queries::RangeTable;
+use s2ix_bag_lists::FlatHeld;
+use s2ix_table_queries::{LeafHint, RangeTable};
 
 // Where the chain over a leaf begins, or `None` if nothing lies there.
+#[inline]
 fn first_over<T: RangeTable>(table: &T, leaf: CellId) -> Option<T::Place>
     requires { level_of leaf ≡ 30 }
     ensures place { (p : T.Place) → result ≡ Some p → IsPlace (T.chain table.now) p }
     ensures pairs { from_place (T.chain table.now) result ≡ contents_at (raw_of leaf) (T.pairs table.now) }
-    ensures few { length (from_place (T.chain table.now) result) ≤ 1000000 }
+    ensures within_limit { length (from_place (T.chain table.now) result) ≤ 1000000 }
 {
-    let range = table.find(leaf);
-    table.first(range)
-}
-
-// How many pairs a chain has from a place on.
-fn length_from<T: RangeTable>(table: &T, first: Option<T::Place>) -> usize
-    requires place { (p : T.Place) → first ≡ Some p → IsPlace (T.chain table.now) p }
-    requires few { length (from_place (T.chain table.now) first) ≤ 1000000 }
-    ensures { result ≡ length (from_place (T.chain table.now) first) }
-{
-    let mut many = 0;
-    let mut next = first;
-    while let Some(place) = next {
-        many += 1;
-        next = table.outer(place);
-    }
-    many
-}
-
-// Writes the first `many` pairs of a chain from a place on to the front of `out`, which has room for them.
-fn write_from<T: RangeTable>(table: &T, first: Option<T::Place>, many: usize, out: &mut [Row])
-    requires place { (p : T.Place) → first ≡ Some p → IsPlace (T.chain table.now) p }
-    requires some { many ≤ length (from_place (T.chain table.now) first) }
-    requires room { many ≤ length out.old }
-    ensures front { take many out.new ≡ map row_of (take many (from_place (T.chain table.now) first)) }
-    ensures after { drop many out.new ≡ drop many out.old }
-{
-    let mut count = 0;
-    let mut next = first;
-    while let Some(place) = next {
-        if count == many {
-            return;
-        }
-        out[count] = row_for(table.held_at(place));
-        count += 1;
-        next = table.outer(place);
-    }
-}
-
-// Puts the pairs over a leaf to the front of `out`, if it has room for them; `number` is how many there are. It does not allocate: it goes
-// along the chain once to count, and once to write. O(log n + k) for k pairs.
-pub(crate) fn put_contents<T: RangeTable>(
-    table: &T,
-    leaf: CellId,
-    out: &mut [Row],
-    number: &mut usize,
-) -> u32
-    requires { level_of leaf ≡ 30 }
-    ensures { IsPut (map row_of (contents_at (raw_of leaf) (T.pairs table.now))) result number.new out.old out.new }
-{
-    let first = first_over(table, leaf);
-    *number = length_from(table, first);
-    if *number > out.len() {
-        return NO_ROOM;
-    }
-    write_from(table, first, *number, out);
-    DONE
+    table.first_over(leaf)
 }
 
 // Where the chain of a range begins, or `None` if nothing lies over it.
+#[inline]
 fn first_in<T: RangeTable>(table: &T, place: usize) -> Option<T::Place>
     requires { place < length (T.ranges table.now) }
     ensures place { (p : T.Place) → result ≡ Some p → IsPlace (T.chain table.now) p }
     ensures begun { (from : ℕ) → front_from from (from_place (T.chain table.now) result)
         ≡ begun_from from (range_at (T.ranges table.now) place).contents }
-    ensures few { length (from_place (T.chain table.now) result) ≤ 1000000 }
+    ensures within_limit { length (from_place (T.chain table.now) result) ≤ 1000000 }
 {
     table.first(place)
 }
@@ -94,7 +45,7 @@ fn first_in<T: RangeTable>(table: &T, place: usize) -> Option<T::Place>
 // How many pairs a chain has from a place on up to the first whose cell begins before the leaf number `from`.
 fn length_begun<T: RangeTable>(table: &T, first: Option<T::Place>, from: u64) -> usize
     requires place { (p : T.Place) → first ≡ Some p → IsPlace (T.chain table.now) p }
-    requires few { length (from_place (T.chain table.now) first) ≤ 1000000 }
+    requires within_limit { length (from_place (T.chain table.now) first) ≤ 1000000 }
     ensures { result ≡ length (front_from from (from_place (T.chain table.now) first)) }
 {
     let mut begun = 0;
@@ -109,8 +60,131 @@ fn length_begun<T: RangeTable>(table: &T, first: Option<T::Place>, from: u64) ->
     begun
 }
 
-// Puts the pairs over a range whose cells begin at the leaf number `from` or later to the front of `out`, if it has room for them; `number`
-// is how many there are. It does not allocate. O(k) for k pairs.
+// Writes the pairs of a chain from a place on, up to the first whose cell begins before the leaf number `from`, to the front of `out` while
+// there is room; `count` is how many are written. Returns where the chain goes on if the room ends there.
+#[inline]
+fn write_begun<T: RangeTable>(
+    table: &T,
+    first: Option<T::Place>,
+    from: u64,
+    out: &mut [Row],
+    count: &mut usize,
+) -> Option<T::Place>
+    requires { (p : T.Place) → first ≡ Some p → IsPlace (T.chain table.now) p }
+    ensures rows { take count.new out.new ++ map row_of (front_from from (from_place (T.chain table.now) result))
+        ≡ map row_of (front_from from (from_place (T.chain table.now) first)) }
+    ensures after { drop count.new out.new ≡ drop count.new out.old }
+    ensures room { count.new ≤ length out.old }
+    ensures full { count.new < length out.old → result ≡ None }
+    ensures place { (p : T.Place) → result ≡ Some p → IsPlace (T.chain table.now) p }
+    ensures shorter { length (from_place (T.chain table.now) result) ≤ length (from_place (T.chain table.now) first) }
+{
+    *count = 0;
+    let mut next = first;
+    while let Some(place) = next {
+        if *count == out.len() {
+            return Some(place);
+        }
+        let held = table.held_at(place);
+        if held.pair.cell.span_start() < from {
+            return None;
+        }
+        out[*count] = row_for(held);
+        *count += 1;
+        next = table.outer(place);
+    }
+    None
+}
+
+// Puts the pairs of a chain from a place on, up to the first whose cell begins before the leaf number `from`, to the front of `out` as far as
+// it has room; `number` is how many there are.
+#[inline]
+fn put_chain<T: RangeTable>(
+    table: &T,
+    first: Option<T::Place>,
+    from: u64,
+    out: &mut [Row],
+    number: &mut usize,
+) -> u32
+    requires place { (p : T.Place) → first ≡ Some p → IsPlace (T.chain table.now) p }
+    requires within_limit { length (from_place (T.chain table.now) first) ≤ 1000000 }
+    ensures { IsFilled (map row_of (front_from from (from_place (T.chain table.now) first))) result number.new out.old out.new }
+{
+    let rest = write_begun(table, first, from, out, number);
+    let more = length_begun(table, rest, from);
+    *number += more;
+    if more > 0 {
+        return NO_ROOM;
+    }
+    DONE
+}
+
+// Writes the pairs of a chain that is kept in lists, from a place of it on, to the front of `out` while there is room; `count` is how many are
+// written. Returns where the chain goes on if the room ends there.
+#[inline(always)]
+fn write_linked(
+    held: &[FlatHeld],
+    outers: &[u32],
+    first: u32,
+    out: &mut [Row],
+    count: &mut usize,
+) -> u32
+    requires { length outers.now ≡ length held.now }
+    ensures rows { (chain : ℕ → Collection) → AreLinked held.now outers.now chain
+        → take count.new out.new ++ map row_of (chain result) ≡ map row_of (chain first) }
+    ensures after { drop count.new out.new ≡ drop count.new out.old }
+    ensures room { count.new ≤ length out.old }
+    ensures full { count.new < length out.old → length held.now ≤ result }
+{
+    *count = 0;
+    let mut place = first;
+    while (place as usize) < held.len() && *count < out.len() {
+        out[*count] = row_for(held[place as usize].held());
+        *count += 1;
+        place = outers[place as usize];
+    }
+    place
+}
+
+// How many pairs a chain that is kept in lists has from a place of it on.
+fn length_linked(held: &[FlatHeld], outers: &[u32], first: u32) -> usize
+    requires { length outers.now ≡ length held.now }
+    ensures number { (chain : ℕ → Collection) → AreLinked held.now outers.now chain → length (chain first) ≤ 1000000
+        → result ≡ length (chain first) }
+    ensures at_most { result ≤ 1000000 }
+{
+    let mut left = 0;
+    let mut place = first;
+    // (no chain is longer than a collection)
+    while left < 1000000 && (place as usize) < held.len() {
+        left += 1;
+        place = outers[place as usize];
+    }
+    left
+}
+
+// Puts the pairs over a leaf to the front of `out` as far as it has room; `number` is how many there are. It does not allocate.
+// O(log n + k) for k pairs: first those of a chain in lists, which are read quickest.
+pub(crate) fn put_over<T: RangeTable>(
+    table: &T,
+    leaf: CellId,
+    out: &mut [Row],
+    number: &mut usize,
+) -> u32
+    requires { level_of leaf ≡ 30 }
+    ensures { IsFilled (map row_of (contents_at (raw_of leaf) (T.pairs table.now))) result number.new out.old out.new }
+{
+    let over = table.contents_near(leaf, LeafHint::none());
+    let left = write_linked(over.held, over.outers, over.innermost, out, number);
+    let more = length_linked(over.held, over.outers, left);
+    let mut behind = 0;
+    let status = put_chain(table, over.rest, 0, &mut out[*number..], &mut behind);
+    *number += more + behind;
+    if more > 0 { NO_ROOM } else { status }
+}
+
+// Puts the pairs over a range whose cells begin at the leaf number `from` or later to the front of `out` as far as it has room; `number` is
+// how many there are. It does not allocate. O(log n + k) for k pairs.
 pub(crate) fn put_begun<T: RangeTable>(
     table: &T,
     place: usize,
@@ -119,14 +193,44 @@ pub(crate) fn put_begun<T: RangeTable>(
     number: &mut usize,
 ) -> u32
     requires { place < length (T.ranges table.now) }
-    ensures { IsPut (map row_of (begun_from from (range_at (T.ranges table.now) place).contents)) result number.new out.old out.new }
+    ensures { IsFilled (map row_of (begun_from from (range_at (T.ranges table.now) place).contents)) result number.new out.old out.new }
 {
     let first = first_in(table, place);
-    let many = length_begun(table, first, from);
-    *number = many;
-    if many > out.len() {
-        return NO_ROOM;
+    put_chain(table, first, from, out, number)
+}
+
+// Where a chain goes on after some of its pairs: `None` if it ends before.
+fn place_after<T: RangeTable>(table: &T, first: Option<T::Place>, count: usize) -> Option<T::Place>
+    requires { (p : T.Place) → first ≡ Some p → IsPlace (T.chain table.now) p }
+    ensures place { (p : T.Place) → result ≡ Some p → IsPlace (T.chain table.now) p }
+    ensures pairs { from_place (T.chain table.now) result ≡ drop count (from_place (T.chain table.now) first) }
+{
+    let mut next = first;
+    let mut passed = 0;
+    while passed < count {
+        let Some(place) = next else {
+            return None;
+        };
+        next = table.outer(place);
+        passed += 1;
     }
-    write_from(table, first, many, out);
-    DONE
+    next
+}
+
+// Puts the pairs over a leaf from one of them on, counted from 0, to the front of `out`: as many as it has room for. The answer is how many
+// are put. It does not allocate, and goes no further along the chain.
+pub(crate) fn put_over_from<T: RangeTable>(
+    table: &T,
+    leaf: CellId,
+    from: usize,
+    out: &mut [Row],
+) -> usize
+    requires { level_of leaf ≡ 30 }
+    ensures { IsPut (map row_of (take (length out.old) (drop from (contents_at (raw_of leaf) (T.pairs table.now))))) done result out.old out.new }
+{
+    let over = first_over(table, leaf);
+    let first = place_after(table, over, from);
+    let mut count = 0;
+    let _rest = write_begun(table, first, 0, out, &mut count);
+    count
 }

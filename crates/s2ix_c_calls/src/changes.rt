@@ -5,7 +5,8 @@ ghost use Rattle.s2ix_edit_plan.specs.Edit.{numbered};
 ghost use Rattle.s2ix_c_calls.specs.Changes.{ListsChange, entry_row_of};
 ghost use Rattle.s2ix_c_calls.specs.Lists.{IsPut};
 
-use crate::status::{DONE, NO_ROOM, NO_SUCH_CHANGE};
+use crate::rows::{OfItem, put_list};
+use crate::status::NO_SUCH_CHANGE;
 use s2ix_bag_changes::Change;
 use s2ix_bag_pairs::Entry;
 use s2ix_edit::Store;
@@ -24,16 +25,22 @@ pub struct EntryRow {
     pub after: u32,
 }
 
-// An entry as a row.
-#[inline]
-fn entry_row_for(entry: Entry) -> EntryRow
-    ensures { result ≡ entry_row_of entry }
-{
-    EntryRow {
-        cell: entry.pair.cell.raw(),
-        label: entry.pair.label.get(),
-        before: entry.before,
-        after: entry.after,
+impl OfItem<Entry> for EntryRow {
+    ghost use Rattle.std.specs.Prelude.{IsTrue, true};
+    ghost use Rattle.s2ix_c_calls.specs.Changes.{entry_row_of};
+
+    ghost of = { entry_row_of };
+
+    ghost fits = { λ _. IsTrue true };
+
+    #[inline]
+    fn of_item(entry: Entry) -> EntryRow {
+        EntryRow {
+            cell: entry.pair.cell.raw(),
+            label: entry.pair.label.get(),
+            before: entry.before,
+            after: entry.after,
+        }
     }
 }
 
@@ -41,14 +48,7 @@ fn entry_row_for(entry: Entry) -> EntryRow
 pub(crate) fn put_entries(list: &[Entry], out: &mut [EntryRow], number: &mut usize) -> u32
     ensures { IsPut (map entry_row_of list.now) result number.new out.old out.new }
 {
-    *number = list.len();
-    if list.len() > out.len() {
-        return NO_ROOM;
-    }
-    for (place, entry) in list.iter().enumerate() {
-        out[place] = entry_row_for(*entry);
-    }
-    DONE
+    put_list(list, out, number)
 }
 
 // The change with a number, counted from 1.
@@ -60,7 +60,7 @@ fn change_numbered(changes: &[Change], number: u32) -> Option<&Change>
 }
 
 /// The entries of the change with a number, counted from 1 among those that can be undone: by rising cell, then label.
-pub fn change_store(store: &Store, change: u32, out: &mut [EntryRow], number: &mut usize) -> u32
+pub fn change(store: &Store, change: u32, out: &mut [EntryRow], number: &mut usize) -> u32
     ensures { ListsChange change store.now result number.new out.old out.new }
 {
     let Some(change) = change_numbered(store.done(), change) else {

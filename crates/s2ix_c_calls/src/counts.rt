@@ -12,7 +12,7 @@ use s2ix_edit::Store;
 use s2ix_table_queries::RangeTable;
 
 /// How many copies of a cell are held under a label: 0 if the pair is not held.
-pub fn count_store(store: &Store, cell: u64, label: u32, count: &mut u32) -> u32
+pub fn count(store: &Store, cell: u64, label: u32, count: &mut u32) -> u32
     ensures { Counts (pair_numbered cell label) store.now result count.new }
 {
     match pair_of(cell, label) {
@@ -28,7 +28,7 @@ pub fn count_store(store: &Store, cell: u64, label: u32, count: &mut u32) -> u32
 }
 
 /// How many ranges the table of a store has.
-pub fn ranges_of(store: &Store) -> usize
+pub fn range_count(store: &Store) -> usize
     ensures { result ≡ length (range_table store.now.bag.held) }
 {
     table_of(store).range_count()

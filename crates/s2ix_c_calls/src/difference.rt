@@ -11,7 +11,7 @@ use s2ix_edit::Store;
 use std::alloc::Global;
 
 /// The entries of the change that leads from the pairs of one store to those of another, by rising cell, then label.
-pub fn difference_store(
+pub fn difference(
     alloc: Global,
     before: &Store,
     after: &Store,

@@ -3,17 +3,17 @@
 ghost use Rattle.std.specs.Prelude.{◌≤◌, length};
 ghost use Rattle.s2ix_c_calls.specs.Each.{AnswersLeaves, AnswersTargets, PutsNext, RefusesRoom};
 
-use crate::queries::{labels_store, meet_store};
+use crate::queries::{labels, meet};
 use crate::rows::Row;
 use crate::status::{DONE, NO_CELL, NO_ROOM, NO_SPAN};
 use crate::unions::check_cells;
 use s2ix_edit::Store;
-use s2ix_table_queries::{EachStop, OfHeld, at_each};
+use s2ix_table_queries::{EachStop, OfHeld};
 use std::alloc::Global;
 
-/// What lies over each of some leaves: what `at_store` puts for the first one, then for the next, and so on; of each pair all, or its
+/// What lies over each of some leaves: what `at` puts for the first one, then for the next, and so on; of each pair all, or its
 /// label. `answered` is how many leaves are answered, from the first one on, and the status says why the next one is not. It does not allocate.
-pub fn at_each_store<R: OfHeld>(
+pub fn at_each<R: OfHeld>(
     store: &Store,
     leaves: &[u64],
     ends: &mut [usize],
@@ -22,7 +22,7 @@ pub fn at_each_store<R: OfHeld>(
 ) -> u32
     ensures { AnswersLeaves R.of store.now.bag.held leaves.now result answered.new ends.old ends.new out.old out.new }
 {
-    let each = at_each(store.table(), leaves, ends, out);
+    let each = s2ix_table_queries::at_each(store.table(), leaves, ends, out);
     *answered = each.answered;
     match each.stop {
         EachStop::All => DONE,
@@ -36,15 +36,15 @@ pub trait OfTarget: Copy {
     ghost use Rattle.std.specs.Prelude.{◌≡◌, ◌≢◌, List, []};
     ghost use Rattle.s2id_core.specs.declared.cell_id.CellId.{CellId};
     ghost use Rattle.s2ix_edit_plan.specs.State.{State};
-    ghost use Rattle.s2ix_c_calls.specs.Lists.{ListsOf};
+    ghost use Rattle.s2ix_c_calls.specs.Lists.{FillsOf};
     ghost use Rattle.s2ix_c_calls.specs.Status.{out_of_memory};
 
     // what is put for the union of these cells
     ghost list: { List CellId → State → List Self };
 
-    /// Puts it to the front of `out`, if there is room for it; `number` is how many items there are.
+    /// Puts it to the front of `out` as far as there is room for it; `number` is how many items there are.
     fn put(alloc: Global, store: &Store, ids: &[u64], out: &mut [Self], number: &mut usize) -> u32
-        ensures list { ListsOf (λ cells. list cells store.now) ids.now result number.new out.old out.new }
+        ensures list { FillsOf (λ cells. list cells store.now) ids.now result number.new out.old out.new }
         ensures memory { result ≡ out_of_memory → ids.now ≢ [] };
 }
 
@@ -54,7 +54,7 @@ impl OfTarget for Row {
     ghost list = { rows_met };
 
     fn put(alloc: Global, store: &Store, ids: &[u64], out: &mut [Row], number: &mut usize) -> u32 {
-        meet_store(alloc, store, ids, out, number)
+        meet(alloc, store, ids, out, number)
     }
 }
 
@@ -64,7 +64,7 @@ impl OfTarget for u32 {
     ghost list = { labels_met };
 
     fn put(alloc: Global, store: &Store, ids: &[u64], out: &mut [u32], number: &mut usize) -> u32 {
-        labels_store(alloc, store, ids, out, number)
+        labels(alloc, store, ids, out, number)
     }
 }
 
@@ -100,7 +100,7 @@ fn refuse_room(ids: &[u64]) -> u32
 /// bound more than there are targets. Beside each target `ends` gets how many items are put for it and those before it. `answered` is how
 /// many targets are answered, from the first one on, and the status says why the next one is not: wrong bounds come first, then a wrong cell.
 /// It wants no memory for a target without cells.
-pub fn each_store<R: OfTarget>(
+pub fn meet_each<R: OfTarget>(
     alloc: Global,
     store: &Store,
     cells: &[u64],

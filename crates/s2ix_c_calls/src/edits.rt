@@ -11,48 +11,44 @@ use s2ix_edit_plan::{Edit, EditError};
 use std::alloc::Global;
 
 /// Carries an edit out on a store; `number` is how many pairs changed their counts.
-pub fn edit_store(store: &mut Store, edit: &Edit, number: &mut usize) -> u32
+pub fn edit(store: &mut Store, edit: &Edit, number: &mut usize) -> u32
     ensures { IsEdited edit.now result number.new store.old store.new }
 {
+    *number = 0;
     match store.edit(edit) {
         Ok(changed) => {
             *number = changed;
             DONE
         }
-        Err(error) => {
-            *number = 0;
-            status_of(error)
-        }
+        Err(error) => status_of(error),
     }
 }
 
 // Adds pairs to the counts of a store, as one change; `number` is how many pairs gained copies.
-pub(crate) fn add_store(store: &mut Store, rows: &[Held], number: &mut usize) -> u32
+pub(crate) fn add_held(store: &mut Store, rows: &[Held], number: &mut usize) -> u32
     ensures { IsAdded rows.now result number.new store.old store.new }
 {
+    *number = 0;
     match store.add_all(rows) {
         Ok(changed) => {
             *number = changed;
             DONE
         }
-        Err(why) => {
-            *number = 0;
-            status_of(why)
-        }
+        Err(why) => status_of(why),
     }
 }
 
 /// Adds the count of each row to that of the pair that the row names, as one change; `number` is how many pairs gained copies. If a row is
 /// wrong, the first such row decides, and `number` is its place, counted from 0. Memory is wanted only if all rows are right, and there are
 /// some.
-pub fn add_rows(alloc: Global, store: &mut Store, rows: &[Row], number: &mut usize) -> u32
+pub fn add_all(alloc: Global, store: &mut Store, rows: &[Row], number: &mut usize) -> u32
     ensures { AddsRows rows.now result number.new store.old store.new }
 {
     if let Some(why) = wrong_row(rows, number) {
         return why;
     }
     match held_list(alloc, rows) {
-        Ok(held) => add_store(store, held.as_slice(), number),
+        Ok(held) => add_held(store, held.as_slice(), number),
         Err(_) => OUT_OF_MEMORY,
     }
 }
@@ -99,7 +95,7 @@ pub fn add_union(
         return add_nothing(store, number);
     }
     match normal_of(alloc, ids, number) {
-        Ok(union) => edit_store(store, &Edit::AddUnion { union, label }, number),
+        Ok(union) => edit(store, &Edit::AddUnion { union, label }, number),
         Err(why) => why,
     }
 }

@@ -7,6 +7,7 @@ ghost use Rattle.s2ix_c_calls.specs.Lists.{row_of};
 ghost use Rattle.s2ix_c_calls.specs.Texts.{status_text};
 ghost use Rattle.s2ix_c_calls.specs.declared.changes.EntryRow.{EntryRow};
 ghost use Rattle.s2ix_c_calls.specs.declared.held_labels.LabelRow.{LabelRow};
+ghost use Rattle.s2ix_c_calls.specs.declared.ranges.LeafRange.{LeafRange};
 ghost use Rattle.s2ix_c_calls.specs.declared.replaying.Direction.{Direction};
 ghost use Rattle.s2ix_c_calls.specs.declared.replaying.Refused.{Refused};
 ghost use Rattle.s2ix_c_calls.specs.declared.rows.Row.{Row};
@@ -14,6 +15,7 @@ ghost use Rattle.s2ix_c_calls.specs.declared.rows.Row.{Row};
 use crate::changes::EntryRow;
 use crate::held_labels::LabelRow;
 use crate::no_answer::NoAnswer;
+use crate::ranges::LeafRange;
 use crate::replaying::{Direction, Refused};
 use crate::rows::Row;
 use s2ix_table_queries::OfHeld;
@@ -50,6 +52,12 @@ pub fn cloned_entry_rows_are_the_same()
 pub fn cloned_label_rows_are_the_same()
     ensures same { (a copy : LabelRow) → ⟦<LabelRow as Clone>⟧.is_clone a copy ↔ (copy ≡ a) }
     ensures never_fails { (a : LabelRow) → ⟦<LabelRow as Clone>⟧.is_infallible a }
+{}
+
+/// A clone of a range of leaves is the same, and cloning never fails.
+pub fn cloned_leaf_ranges_are_the_same()
+    ensures same { (a copy : LeafRange) → ⟦<LeafRange as Clone>⟧.is_clone a copy ↔ (copy ≡ a) }
+    ensures never_fails { (a : LeafRange) → ⟦<LeafRange as Clone>⟧.is_infallible a }
 {}
 
 /// A clone of a direction is the same, and cloning never fails.

@@ -9,7 +9,7 @@ use s2ix_edit::Store;
 use std::alloc::Global;
 
 /// Carries a line out on a store; `number` is how many bytes its answer has, or how much room it wants.
-pub fn line_store(
+pub fn line(
     alloc: Global,
     store: &mut Store,
     line: &[u8],

@@ -25,25 +25,25 @@ fn write_page<B: PairReader>(reader: &mut B, from: usize, out: &mut [Row]) -> us
 }
 
 /// The pairs from a place on, counted from 0 in rising order: as many as the buffer has room for. `number` is how many are put.
-pub fn pairs_store(store: &Store, from: usize, out: &mut [Row], number: &mut usize) -> u32
+pub fn pairs(store: &Store, from: usize, out: &mut [Row], number: &mut usize) -> u32
     ensures { PutsPage from store.now result number.new out.old out.new }
 {
     *number = write_page(&mut BagReader::new(store.bag()), from, out);
     DONE
 }
 
-// How many pairs have a label. O(n) for all n pairs.
+// How many pairs have a label. O(n) at worst for all n pairs.
 fn count_labelled(store: &Store, label: Label) -> usize
     ensures { result ≡ length (held_with label store.now.bag.held) }
 {
-    let mut many = 0;
+    let mut count = 0;
     for _held in store.bag().of_label(label) {
-        many += 1;
+        count += 1;
     }
-    many
+    count
 }
 
-// Writes the pairs of a label to the front of `out`, which has room for them. O(n) for all n pairs.
+// Writes the pairs of a label to the front of `out`, which has room for them. O(n) at worst for all n pairs.
 fn write_labelled(store: &Store, label: Label, out: &mut [Row])
     requires { length (held_with label store.now.bag.held) ≤ length out.old }
     ensures front { take (length (held_with label store.now.bag.held)) out.new ≡ map row_of (held_with label store.now.bag.held) }
@@ -58,7 +58,7 @@ fn write_labelled(store: &Store, label: Label, out: &mut [Row])
 }
 
 /// The pairs of a label, by rising cell. It does not allocate: it goes through the pairs once to count, and once to write.
-pub fn label_store(store: &Store, label: u32, out: &mut [Row], number: &mut usize) -> u32
+pub fn of_label(store: &Store, label: u32, out: &mut [Row], number: &mut usize) -> u32
     ensures { Puts (rows_with (label_numbered label) store.now) result number.new out.old out.new }
 {
     *number = 0;

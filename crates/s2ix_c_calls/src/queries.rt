@@ -1,86 +1,57 @@
 //! Queries of a store. None changes it.
 
-ghost use Rattle.std.specs.Prelude.{◌≡◌, ◌≢◌, ◌↔◌, [], Some, IsTrue, drop, length, map, take};
+ghost use Rattle.std.specs.Prelude.{◌≡◌, ◌≢◌, ◌↔◌, [], Some, IsTrue, length};
 ghost use Rattle.s2ix_bag_pairs.specs.Label.{label_numbered};
 ghost use Rattle.s2ix_bag_pairs.specs.OfLabel.{held_of as held_with};
-ghost use Rattle.s2ix_table_walk.specs.Meeting.{meeting_of};
 ghost use Rattle.s2ix_table_queries.specs.Leaf.{leaf_numbered};
-ghost use Rattle.s2ix_c_calls.specs.Lists.{labels_met, IsPut, ListsOf, Puts, PutsGathered, region_cells, rows_met, rows_met_from, rows_over, row_of};
-ghost use Rattle.s2ix_c_calls.specs.Status.{done, no_room, out_of_memory};
+ghost use Rattle.s2ix_c_calls.specs.Asked.{NeedUnion};
+ghost use Rattle.s2ix_c_calls.specs.Lists.{Fills, FillsOf, labels_met, ListsOf, PutsGathered, region_cells, rows_met, rows_met_from, rows_over};
+ghost use Rattle.s2ix_c_calls.specs.Status.{no_room, out_of_memory};
 
-use crate::chains::put_contents;
-use crate::rows::{Row, put_cells, put_labels, put_rows, row_for};
+use crate::chains::{put_over, put_over_from};
+use crate::meetings::{put_met, put_met_from};
+use crate::rows::{Row, put_cells, put_labels};
 use crate::status::{DONE, NO_CELL, NO_LABEL, OUT_OF_MEMORY};
-use crate::unions::{check_cells, normal_of};
-use s2id_union::CellUnion;
+use crate::target::Target;
+use crate::unions::{check_cells, one_leaf};
 use s2ix_bag_pairs::Label;
 use s2ix_edit::Store;
-use s2ix_table_queries::{Meter, RangeTable, leaf_of};
-use s2ix_table_walk::Meeting;
+use s2ix_table_queries::{RangeTable, leaf_of};
 use std::alloc::Global;
 
 /// The pairs over a leaf, the innermost cell first, the labels of one cell rising. It does not allocate.
-pub fn at_store(store: &Store, leaf: u64, out: &mut [Row], number: &mut usize) -> u32
-    ensures { Puts (rows_over (leaf_numbered leaf) store.now) result number.new out.old out.new }
+pub fn at(store: &Store, leaf: u64, out: &mut [Row], number: &mut usize) -> u32
+    ensures { Fills (rows_over (leaf_numbered leaf) store.now) result number.new out.old out.new }
 {
     let Some(leaf) = leaf_of(leaf) else {
         *number = 0;
         return NO_CELL;
     };
-    put_contents(store.table(), leaf, out, number)
+    put_over(store.table(), leaf, out, number)
 }
 
 /// The pairs that share a leaf with a union of cells, given in any order and repeated or not: each once, by first shared leaf, then
-/// falling level, then rising label.
-pub fn meet_store(
-    alloc: Global,
-    store: &Store,
-    ids: &[u64],
-    out: &mut [Row],
-    number: &mut usize,
-) -> u32
-    ensures list { ListsOf (λ cells. rows_met cells store.now) ids.now result number.new out.old out.new }
-    ensures memory { result ≡ out_of_memory → ids.now ≢ [] }
+/// falling level, then rising label. Only a union is gathered, and none is made of at most
+/// 128 cells that follow one another.
+pub fn meet(alloc: Global, store: &Store, ids: &[u64], out: &mut [Row], number: &mut usize) -> u32
+    ensures list { FillsOf (λ cells. rows_met cells store.now) ids.now result number.new out.old out.new }
+    ensures memory { result ≡ out_of_memory → NeedUnion ids.now }
 {
     *number = 0;
     if ids.is_empty() {
         return DONE; // no cells, so no pairs
     }
-    let target = match normal_of(alloc, ids, number) {
-        Ok(target) => target,
-        Err(why) => return why,
-    };
-    let Ok(list) = store.table().meeting(alloc, &target) else {
-        return OUT_OF_MEMORY;
-    };
-    put_rows(list.as_slice(), out, number)
-}
-
-// Puts the pairs that a target meets, from a place on, to the front of `out`: as many as it has room for. The answer is how many are put.
-// It does not allocate.
-fn put_met_from<T: RangeTable>(table: &T, target: &CellUnion, from: usize, out: &mut [Row]) -> usize
-    ensures { IsPut (map row_of (take (length out.old) (drop from (meeting_of target.now (T.pairs table.now))))) done result out.old out.new }
-{
-    let mut meter = Meter::new(table);
-    let mut meeting = Meeting::new(&mut meter, target);
-    let mut passed = 0;
-    let mut count = 0;
-    while count < out.len() {
-        let Some(held) = meeting.advance() else {
-            return count;
-        };
-        if passed < from {
-            passed += 1;
-        } else {
-            out[count] = row_for(held);
-            count += 1;
-        }
+    if let Some(leaf) = one_leaf(ids) {
+        return put_over(store.table(), leaf, out, number);
     }
-    count
+    match Target::of(alloc, ids, number) {
+        Ok(target) => put_met(store.table(), target.cells(), out, number),
+        Err(why) => why,
+    }
 }
 
-/// The pairs that `meet_store` puts, from a place on, counted from 0: as many as the buffer has room for. It goes no further along the table.
-pub fn meet_store_from(
+/// The pairs that `meet` puts, from a place on, counted from 0: as many as the buffer has room for. It goes no further along the table.
+pub fn meet_from(
     alloc: Global,
     store: &Store,
     ids: &[u64],
@@ -89,7 +60,7 @@ pub fn meet_store_from(
     number: &mut usize,
 ) -> u32
     ensures list { ListsOf (λ cells. rows_met_from from (length out.old) cells store.now) ids.now result number.new out.old out.new }
-    ensures memory { result ≡ out_of_memory → (ids.now ≢ []) × (out.old ≢ []) }
+    ensures memory { result ≡ out_of_memory → NeedUnion ids.now × (out.old ≢ []) }
     ensures room { result ≢ no_room }
 {
     *number = 0;
@@ -99,40 +70,38 @@ pub fn meet_store_from(
     if out.is_empty() {
         return check_cells(ids, number);
     }
-    let target = match normal_of(alloc, ids, number) {
+    if let Some(leaf) = one_leaf(ids) {
+        *number = put_over_from(store.table(), leaf, from, out);
+        return DONE;
+    }
+    let target = match Target::of(alloc, ids, number) {
         Ok(target) => target,
         Err(why) => return why,
     };
-    *number = put_met_from(store.table(), &target, from, out);
+    *number = put_met_from(store.table(), target.cells(), from, out);
     DONE
 }
 
 /// The labels of the pairs that share a leaf with a union of cells: each once, rising.
-pub fn labels_store(
-    alloc: Global,
-    store: &Store,
-    ids: &[u64],
-    out: &mut [u32],
-    number: &mut usize,
-) -> u32
-    ensures list { ListsOf (λ cells. labels_met cells store.now) ids.now result number.new out.old out.new }
+pub fn labels(alloc: Global, store: &Store, ids: &[u64], out: &mut [u32], number: &mut usize) -> u32
+    ensures list { FillsOf (λ cells. labels_met cells store.now) ids.now result number.new out.old out.new }
     ensures memory { result ≡ out_of_memory → ids.now ≢ [] }
 {
     *number = 0;
     if ids.is_empty() {
         return DONE; // no cells, so no labels
     }
-    let target = match normal_of(alloc, ids, number) {
+    let target = match Target::of(alloc, ids, number) {
         Ok(target) => target,
         Err(why) => return why,
     };
-    let Ok(list) = store.table().labels(alloc, &target) else {
+    let Ok(list) = store.table().labels_of_cells(alloc, target.cells()) else {
         return OUT_OF_MEMORY;
     };
     put_labels(list.as_slice(), out, number)
 }
 
-// Whether no pair has a label. O(n) for all n pairs; it does not allocate.
+// Whether no pair has a label. O(n) at worst for all n pairs; it does not allocate.
 fn lacks_label(store: &Store, label: Label) -> bool
     ensures { IsTrue result ↔ (held_with label store.now.bag.held ≡ []) }
 {
@@ -155,7 +124,7 @@ fn put_region(store: &Store, label: Label, out: &mut [u64], number: &mut usize) 
 }
 
 /// The region of a label: the normal union of the cells that are held with it, rising. If none is, no memory is wanted.
-pub fn region_store(store: &Store, label: u32, out: &mut [u64], number: &mut usize) -> u32
+pub fn region(store: &Store, label: u32, out: &mut [u64], number: &mut usize) -> u32
     ensures { PutsGathered (region_cells (label_numbered label) store.now) result number.new out.old out.new }
 {
     match Label::new(label) {

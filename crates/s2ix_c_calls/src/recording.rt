@@ -135,7 +135,7 @@ fn entry_list(alloc: Global, rows: &[EntryRow]) -> Result<Vec<Entry>, OutOfMemor
 }
 
 // The status of a change that a store refuses, and the place of the entry that is refused, 0 if none is.
-fn told_of(error: RecordError) -> (u32, usize)
+fn status_and_place(error: RecordError) -> (u32, usize)
     ensures status { result.0 ≡ record_status error }
     ensures place { result.1 ≡ record_place error }
 {
@@ -159,7 +159,7 @@ fn record_change(store: &mut Store, change: Change, number: &mut usize) -> u32
             DONE
         }
         Err(why) => {
-            let (status, place) = told_of(why);
+            let (status, place) = status_and_place(why);
             *number = place;
             status
         }
@@ -170,7 +170,7 @@ fn record_change(store: &mut Store, change: Change, number: &mut usize) -> u32
 /// all else, then the first that is not above the one before it, then the first whose counts are equal: `number` is its place, counted from
 /// 0, and so it is of the first row whose count before is not the one that is held. Memory is wanted only if the rows give a change, and
 /// there are some.
-pub fn record_rows(alloc: Global, store: &mut Store, rows: &[EntryRow], number: &mut usize) -> u32
+pub fn record(alloc: Global, store: &mut Store, rows: &[EntryRow], number: &mut usize) -> u32
     ensures { RecordsRows rows.now result number.new store.old store.new }
 {
     if let Some(why) = wrong_entry(rows, number) {

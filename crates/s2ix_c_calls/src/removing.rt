@@ -11,7 +11,7 @@ use s2ix_edit_plan::RemoveError;
 use std::alloc::Global;
 
 // The status of rows that are not removed, and the place of the row that is refused, 0 if none is.
-fn told_of(error: RemoveError) -> (u32, usize)
+fn status_and_place(error: RemoveError) -> (u32, usize)
     ensures status { result.0 ≡ remove_status error }
     ensures place { result.1 ≡ remove_place error }
 {
@@ -33,7 +33,7 @@ fn remove_held(store: &mut Store, rows: &[Held], number: &mut usize) -> u32
             DONE
         }
         Err(why) => {
-            let (status, place) = told_of(why);
+            let (status, place) = status_and_place(why);
             *number = place;
             status
         }
@@ -43,7 +43,7 @@ fn remove_held(store: &mut Store, rows: &[Held], number: &mut usize) -> u32
 /// Takes the count of each row from that of the pair that the row names, as one change; `number` is how many pairs lost copies. If a row is
 /// wrong, the first such row decides, and `number` is its place, counted from 0, and so it is of the first row that takes more copies than
 /// the rows before it leave. Memory is wanted only if all rows are right, and there are some.
-pub fn remove_rows(alloc: Global, store: &mut Store, rows: &[Row], number: &mut usize) -> u32
+pub fn remove_all(alloc: Global, store: &mut Store, rows: &[Row], number: &mut usize) -> u32
     ensures { RemovesRows rows.now result number.new store.old store.new }
 {
     if let Some(why) = wrong_row(rows, number) {

@@ -1,8 +1,8 @@
 //! Lists in buffers of the caller.
 
-ghost use Rattle.std.specs.Prelude.{◌≡◌, ◌≢◌, ◌≤◌, [], length, map, IfOk, IfSome, IsErr, IsNone};
+ghost use Rattle.std.specs.Prelude.{◌≡◌, ◌≢◌, ◌≤◌, [], length, map, All, IfOk, IfSome, IsErr, IsNone};
 ghost use Rattle.s2ix_c_calls.specs.Asked.{AreRight, IsFirstWrong, NameHeld, held_asked};
-ghost use Rattle.s2ix_c_calls.specs.Lists.{IsPut, row_of};
+ghost use Rattle.s2ix_c_calls.specs.Lists.{IsFilled, IsPut, row_of};
 ghost use Rattle.s2id_core.specs.CellId.{raw_of};
 ghost use Rattle.s2ix_bag_pairs.specs.Label.{value_of};
 
@@ -92,30 +92,62 @@ pub(crate) fn held_list(alloc: Global, rows: &[Row]) -> Result<Vec<Held>, OutOfM
     Ok(list)
 }
 
-// Puts pairs to the front of `out`, if it has room for them; `number` is how many there are.
-pub(crate) fn put_rows(list: &[Held], out: &mut [Row], number: &mut usize) -> u32
-    ensures { IsPut (map row_of list.now) result number.new out.old out.new }
+// Puts labels to the front of `out` as far as it has room; `number` is how many there are.
+pub(crate) fn put_labels(list: &[Label], out: &mut [u32], number: &mut usize) -> u32
+    ensures { IsFilled (map value_of list.now) result number.new out.old out.new }
 {
+    let count = list.len().min(out.len());
+    for place in 0..count {
+        out[place] = list[place].get();
+    }
     *number = list.len();
     if list.len() > out.len() {
         return NO_ROOM;
-    }
-    for (place, held) in list.iter().enumerate() {
-        out[place] = row_for(*held);
     }
     DONE
 }
 
-// Puts labels to the front of `out`, if it has room for them; `number` is how many there are.
-pub(crate) fn put_labels(list: &[Label], out: &mut [u32], number: &mut usize) -> u32
-    ensures { IsPut (map value_of list.now) result number.new out.old out.new }
+// What a buffer of the caller keeps of an item of a list.
+pub(crate) trait OfItem<I>: Copy {
+    ghost use Rattle.std.specs.Prelude.{◌≡◌};
+
+    // what is kept of an item
+    ghost of: { I → Self };
+
+    // which items can be kept
+    ghost fits: { I → Type 0 };
+
+    // What is kept of an item.
+    fn of_item(item: I) -> Self
+        requires { fits item }
+        ensures { result ≡ of item };
+}
+
+impl OfItem<CellId> for u64 {
+    ghost use Rattle.std.specs.Prelude.{IsTrue, true};
+    ghost use Rattle.s2id_core.specs.CellId.{raw_of};
+
+    ghost of = { raw_of };
+
+    ghost fits = { λ _. IsTrue true };
+
+    #[inline]
+    fn of_item(cell: CellId) -> u64 {
+        cell.raw()
+    }
+}
+
+// Puts a list to the front of `out`, if it has room for it; `number` is how many items there are.
+pub(crate) fn put_list<I: Copy, R: OfItem<I>>(list: &[I], out: &mut [R], number: &mut usize) -> u32
+    requires { All R.fits list.now }
+    ensures { IsPut (map R.of list.now) result number.new out.old out.new }
 {
     *number = list.len();
     if list.len() > out.len() {
         return NO_ROOM;
     }
-    for (place, label) in list.iter().enumerate() {
-        out[place] = label.get();
+    for (place, item) in list.iter().enumerate() {
+        out[place] = R::of_item(*item);
     }
     DONE
 }
@@ -124,14 +156,7 @@ pub(crate) fn put_labels(list: &[Label], out: &mut [u32], number: &mut usize) ->
 pub fn put_cells(list: &[CellId], out: &mut [u64], number: &mut usize) -> u32
     ensures { IsPut (map raw_of list.now) result number.new out.old out.new }
 {
-    *number = list.len();
-    if list.len() > out.len() {
-        return NO_ROOM;
-    }
-    for (place, cell) in list.iter().enumerate() {
-        out[place] = cell.raw();
-    }
-    DONE
+    put_list(list, out, number)
 }
 
 /// Puts a text to the front of `out`, if it has room for it; `number` is how many bytes it has.

@@ -12,11 +12,11 @@ use crate::status::{NO_SUCH_CHANGE, OUT_OF_MEMORY};
 use s2ix_bag_changes::Change;
 use s2ix_edit::Store;
 use s2ix_text_parts::VecSink;
-use s2ix_text_write::{export, write_dump, write_journal};
+use s2ix_text_write::{write_dump, write_journal};
 use std::alloc::Global;
 
 /// The dump of what is held, of the second version.
-pub fn dump_store(alloc: Global, store: &Store, out: &mut [u8], number: &mut usize) -> u32
+pub fn dump(alloc: Global, store: &Store, out: &mut [u8], number: &mut usize) -> u32
     ensures { Lists (Ok (dump_text store.now.bag.held)) result number.new out.old out.new }
 {
     *number = 0;
@@ -28,7 +28,7 @@ pub fn dump_store(alloc: Global, store: &Store, out: &mut [u8], number: &mut usi
 }
 
 /// The journal of the changes that can be undone, the oldest first, of the second version.
-pub fn journal_store(alloc: Global, store: &Store, out: &mut [u8], number: &mut usize) -> u32
+pub fn journal(alloc: Global, store: &Store, out: &mut [u8], number: &mut usize) -> u32
     ensures { Lists (Ok (journal_text store.now.done)) result number.new out.old out.new }
 {
     put_journal(alloc, store.done(), out, number)
@@ -60,7 +60,7 @@ fn from_number(changes: &[Change], number: u32) -> Option<&[Change]>
 
 /// The journal of the changes that can be undone, from the one with a number on, counted from 1, of the second version. The number after the
 /// last is that of the journal of no changes.
-pub fn journal_store_from(
+pub fn journal_from(
     alloc: Global,
     store: &Store,
     change: u32,
@@ -79,11 +79,11 @@ pub fn journal_store_from(
 }
 
 /// The export of what is held: one line of compact JSON, without a line feed.
-pub fn export_store(alloc: Global, store: &Store, out: &mut [u8], number: &mut usize) -> u32
+pub fn export(alloc: Global, store: &Store, out: &mut [u8], number: &mut usize) -> u32
     ensures { Lists (Ok (export_text store.now.bag.held)) result number.new out.old out.new }
 {
     *number = 0;
-    match export(alloc, store.bag()) {
+    match s2ix_text_write::export(alloc, store.bag()) {
         Ok(text) => put_bytes(text.as_bytes(), out, number),
         Err(_) => OUT_OF_MEMORY,
     }

@@ -1,15 +1,16 @@
 //! Unions of cells by their numbers.
 
-ghost use Rattle.std.specs.Prelude.{◌≡◌, ◌≢◌, ◌⊎◌, ◌≤◌, ◌<◌, None, length, map, take, IfErr, IfOk, IfSome, OnOk, Contains, List, ◌++◌};
-ghost use Rattle.s2id_core.specs.CellId.{raw_of};
+ghost use Rattle.std.specs.Prelude.{◌≡◌, ◌≢◌, ◌⊎◌, ◌≤◌, ◌<◌, None, length, map, take, IfErr, IfOk, IfSome, OnOk, Contains, List, [], ◌∷◌, ◌++◌};
+ghost use Rattle.s2id_core.specs.CellId.{level_of, raw_of};
 ghost use Rattle.s2id_union.specs.NormalForm.{normal_form};
-ghost use Rattle.s2ix_c_calls.specs.Asked.{AreAllCells, AreCells, IsFirstNoCell, LacksUnion};
+ghost use Rattle.s2ix_c_calls.specs.Asked.{AreAllCells, AreCells, IsFirstNoCell, IsOneLeaf, LacksUnion};
 ghost use Rattle.s2ix_c_calls.specs.Status.{done, no_cell};
 ghost use Rattle.s2id_core.specs.declared.cell_id.CellId.{CellId};
 
 use crate::status::{DONE, NO_CELL, OUT_OF_MEMORY};
 use s2id_core::{CellId, OutOfMemory};
 use s2id_union::CellUnion;
+use s2ix_table_queries::leaf_of;
 use std::alloc::Global;
 
 // The place of the first number that is no cell's, counted from 0. It does not allocate.
@@ -57,6 +58,18 @@ pub fn check_both(first: &[u64], second: &[u64], number: &mut usize) -> u32
         return NO_CELL;
     }
     DONE
+}
+
+// The leaf of a list of numbers that is that of one leaf alone.
+#[tactic(auto, using(crate::proofs::OneLeaf::one_number, crate::proofs::OneLeaf::longer, crate::proofs::OneLeaf::no_leaf))]
+pub(crate) fn one_leaf(ids: &[u64]) -> Option<CellId>
+    ensures leaf { IfSome result (λ leaf. (level_of leaf ≡ 30) × AreCells ids.now (leaf ∷ [])) }
+    ensures none { result ≡ None → IsOneLeaf ids.now → ⊥ }
+{
+    if ids.len() != 1 {
+        return None;
+    }
+    leaf_of(ids[0])
 }
 
 // The cells of numbers that are all cells'.

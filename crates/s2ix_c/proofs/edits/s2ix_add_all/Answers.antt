@@ -1,8 +1,8 @@
 -- The store is put back as the rows left it.
-use Rattle.std.proofs.Common.{◌≡◌, rules}
+use Rattle.std.proofs.Common.{rules}
 use Rattle.s2ix_c.proofs.Through.{through_open}
 use Rattle.s2ix_c.proofs.edits.s2ix_add_all.Goals as goal
 
-pub returns : goal.returns
-returns c =
-    through_open _ _ _ _ c.deref_mut.result.now c.add_rows-status.new.store (search rules) (search rules) c.add_rows-status.ensures
+pub returns-in-Some : goal.returns-in-Some
+returns-in-Some c =
+    through_open _ _ _ _ c.deref_mut.result.now c.add_all-status.new.store (search rules) (search rules) c.add_all-status.ensures

@@ -35,5 +35,5 @@ returns-in-Err-clause-refused c = λ not_done not_limits. (
   c.in-Some.ensures.pairs,
   c.in-Some.ensures.count,
   c.in-Some.ensures.changes,
-  (c.in-Err.error, c.in-Err.ensures.refused, c.tell.ensures.told),
+  (c.in-Err.error, c.in-Err.ensures.refused, c.tell.ensures.refused),
 )

@@ -14,7 +14,7 @@ returns-then-span_start-from g c =
 pub overflow_add-begun : goal.overflow_add-begun
 overflow_add-begun g c =
     let short = front_short c.args.from (from_place (g.T.RangeTable.chain c.args.table.now) c.args.first) in
-    omega (arith, short, c.loop-next.invariant.1, c.requires.few)
+    omega (arith, short, c.loop-next.invariant.1, c.requires.within_limit)
 
 pub loop-next-preserved : goal.loop-next-preserved
 loop-next-preserved g c =

@@ -1,0 +1,44 @@
+-- What the cells of a target meet, put to a buffer.
+use Rattle.std.proofs.Common.{◌≡◌, ℕ, List, length, map, take, drop, ap, sym, subst, inl}
+use Rattle.s2id_core.specs.declared.cell_id.CellId.{CellId}
+use Rattle.s2id_union.specs.NormalForm.{normal_form}
+use Rattle.s2id_union.proofs.NormalForm.{form_same_region}
+use Rattle.s2ix_bag_pairs.specs.Collection.{Collection}
+use Rattle.s2ix_bag_pairs.specs.Label.{value_of}
+use Rattle.s2ix_edit_plan.specs.State.{State}
+use Rattle.s2ix_table_walk.specs.LabelList.{label_list}
+use Rattle.s2ix_table_walk.specs.Meeting.{meeting_of}
+use Rattle.s2ix_table_walk.proofs.SameMeeting.{same_region_meets}
+use Rattle.s2ix_c_calls.specs.Asked.{AreTarget}
+use Rattle.s2ix_c_calls.specs.Lists.{FillsOf, IsFilled, IsPut, ListsOf, labels_met, row_of, rows_met, rows_met_from}
+use Rattle.s2ix_c_calls.specs.Status.{done}
+use Rattle.s2ix_c_calls.specs.declared.rows.Row.{Row}
+
+module _ (ids : List ℕ) (target : List CellId) (s : State) (of : AreTarget ids target) where
+  -- the union of the cells with the numbers meets the same
+  same_meeting : meeting_of (normal_form of.0) s.bag.held ≡ meeting_of target s.bag.held
+  same_meeting =
+      same_region_meets (normal_form of.0) target s.bag.held (λ leaf deep.
+      let form = form_same_region of.0 leaf deep in
+      let given = of.2 leaf deep in ((λ v. given.1 (form.0 v)), (λ v. form.1 (given.0 v))))
+
+  pub meets_target : (status number : ℕ) (old new : List Row)
+      → IsFilled (map row_of (meeting_of target s.bag.held)) status number old new → FillsOf (λ cells. rows_met cells s) ids status number old new
+  meets_target status number old new filled =
+      inl (of.0, of.1, subst (λ (l : Collection). IsFilled (map row_of l) status number old new) (sym same_meeting) filled)
+
+  pub meets_target_from : (from number : ℕ) (old new : List Row)
+      → IsPut (map row_of (take (length old) (drop from (meeting_of target s.bag.held)))) done number old new
+      → ListsOf (λ cells. rows_met_from from (length old) cells s) ids done number old new
+  meets_target_from from number old new put =
+      inl (
+        of.0,
+        of.1,
+        subst (λ (l : Collection). IsPut (map row_of (take (length old) (drop from l))) done number old new) (sym same_meeting) put,
+      )
+
+  pub has_labels : (status number : ℕ) (old new : List ℕ)
+      → IsFilled (map value_of (label_list (meeting_of target s.bag.held))) status number old new
+      → FillsOf (λ cells. labels_met cells s) ids status number old new
+  has_labels status number old new filled =
+      inl (of.0, of.1, subst (λ (l : Collection). IsFilled (map value_of (label_list l)) status number old new) (sym same_meeting) filled)

@@ -1,0 +1,30 @@
+-- No cells meet nothing, and the cells of a target meet what their union does.
+use Rattle.std.proofs.Common.{◌∙◌, List, length, map, subst, subst₂, sym}
+use Rattle.std.proofs.lemmas.Bool.{eqb-true}
+use Rattle.s2id_core.specs.declared.cell_id.CellId.{CellId}
+use Rattle.s2ix_bag_pairs.specs.Collection.{Collection}
+use Rattle.s2ix_bag_pairs.specs.Label.{value_of}
+use Rattle.s2ix_bag_pairs.specs.declared.label.Label.{Label}
+use Rattle.s2ix_table_walk.specs.LabelList.{label_list}
+use Rattle.s2ix_table_walk.specs.Meeting.{meeting_of}
+use Rattle.s2ix_c_calls.specs.Lists.{IsFilled, labels_met}
+use Rattle.s2ix_c_calls.specs.Targets.{cells_in}
+use Rattle.s2ix_c_calls.proofs.MeetsTarget.{has_labels}
+use Rattle.s2ix_c_calls.proofs.NoCells.{fills_nothing, no_labels_met}
+use Rattle.s2ix_c_calls.proofs.queries.labels.Goals as goal
+
+pub returns-then-is_empty-clause-list : goal.returns-then-is_empty-clause-list
+returns-then-is_empty-clause-list c =
+    let none = eqb-true (length c.args.ids.now) 0 (sym c.is_empty.ensures ∙ c.if-is_empty.true) in
+    fills_nothing c.args.out.now (λ cells. labels_met cells c.args.store.now) c.args.ids.now none (no_labels_met c.args.store.now)
+
+pub returns-clause-list : goal.returns-clause-list
+returns-clause-list c =
+    let put = c.put_labels in
+    has_labels c.args.ids.now (cells_in c.in-Ok.target) c.args.store.now c.in-Ok.ensures.target put.result put.new.number c.args.out.now put.new.out
+    (subst₂
+    (λ (cells : List CellId) (hs : Collection).
+    IsFilled (map value_of (label_list (meeting_of cells hs))) put.result put.new.number c.args.out.now put.new.out)
+    c.cells.ensures.list c.table.ensures.pairs
+    (subst (λ (ls : List Label). IsFilled (map value_of ls) put.result put.new.number c.args.out.now put.new.out)
+    (c.as_slice.ensures.value ∙ c.in-Ok-labels_of_cells.ensures.list) put.ensures))

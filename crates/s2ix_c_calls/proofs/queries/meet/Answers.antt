@@ -1,0 +1,36 @@
+-- No cells meet nothing, a leaf meets what lies over it, and the cells of a target meet what their union does.
+use Rattle.std.proofs.Common.{◌∙◌, List, length, map, subst, subst₂, sym}
+use Rattle.std.proofs.lemmas.Bool.{eqb-true}
+use Rattle.s2id_core.specs.declared.cell_id.CellId.{CellId}
+use Rattle.s2id_core.specs.CellId.{raw_of}
+use Rattle.s2ix_bag_pairs.specs.Collection.{Collection}
+use Rattle.s2ix_table_walk.specs.Contents.{contents_at}
+use Rattle.s2ix_table_walk.specs.Meeting.{meeting_of}
+use Rattle.s2ix_c_calls.specs.Lists.{IsFilled, row_of, rows_met}
+use Rattle.s2ix_c_calls.specs.Targets.{cells_in}
+use Rattle.s2ix_c_calls.proofs.MeetsLeaf.{meets_leaf}
+use Rattle.s2ix_c_calls.proofs.MeetsTarget.{meets_target}
+use Rattle.s2ix_c_calls.proofs.NoCells.{fills_nothing, no_rows_met}
+use Rattle.s2ix_c_calls.proofs.queries.meet.Goals as goal
+
+pub returns-then-is_empty-clause-list : goal.returns-then-is_empty-clause-list
+returns-then-is_empty-clause-list c =
+    let none = eqb-true (length c.args.ids.now) 0 (sym c.is_empty.ensures ∙ c.if-is_empty.true) in
+    fills_nothing c.args.out.now (λ cells. rows_met cells c.args.store.now) c.args.ids.now none (no_rows_met c.args.store.now)
+
+pub returns-in-Some-clause-list : goal.returns-in-Some-clause-list
+returns-in-Some-clause-list c =
+    let leaf = c.in-Some.leaf in
+    let put = c.put_over in
+    meets_leaf c.args.ids.now leaf c.args.store.now c.in-Some.ensures.leaf.0 c.in-Some.ensures.leaf.1 put.result put.new.number c.args.out.now put.new.out
+    (subst
+    (λ (hs : Collection). IsFilled (map row_of (contents_at (raw_of leaf) hs)) put.result put.new.number c.args.out.now put.new.out)
+    c.table.ensures.pairs put.ensures)
+
+pub returns-in-Ok-clause-list : goal.returns-in-Ok-clause-list
+returns-in-Ok-clause-list c =
+    let put = c.put_met in
+    meets_target c.args.ids.now (cells_in c.in-Ok.target) c.args.store.now c.in-Ok.ensures.target put.result put.new.number c.args.out.now put.new.out
+    (subst₂
+    (λ (cells : List CellId) (hs : Collection). IsFilled (map row_of (meeting_of cells hs)) put.result put.new.number c.args.out.now put.new.out)
+    c.cells.ensures.list c.table-in-Ok.ensures.pairs put.ensures)
