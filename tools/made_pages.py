@@ -266,7 +266,8 @@ def path_ends(item):
     """The paths that a function has for the prover: crate::meter::MeterReader::node is that of Reader in 'impl Reader for Meter'."""
     modules = re.sub(r"(^|/)(lib|main|mod)$", "", item.path.split("/src/")[1].removesuffix(".rt")).split("/")
     words = re.findall(r"\w+(?!\w*::)", item.trait)
-    owners = {item.owner + "".join(words[:count]) for count in range(min(1, len(words)), len(words) + 1)}
+    kind = item.owner[:1].upper() + item.owner[1:]
+    owners = {kind + "".join(words[:count]) for count in range(min(1, len(words)), len(words) + 1)}
     return ["::".join(["", *filter(None, [*modules, owner, item.name])]) for owner in owners]
 
 
@@ -297,6 +298,7 @@ def used_by(crate):
     for item in functions_of(crate):
         text = "\n".join(line for line in item.lines[1:] if not line.strip().startswith("//"))
         names = {(owner.replace("Self", item.owner), name) for owner, name in re.findall(r"(?<![.\w:])(?:(\w+)::)?(\w+)\b", text)}
+        names -= {("", parameter) for parameter in re.findall(r"(\w+): ", " ".join(item.head))}
         names |= {("*", name) for name in re.findall(r"\.(\w+)\(", text)}
         for field, name in re.findall(r"\bself\.(\w+)\.(\w+)\(", text):
             names |= {(kind, name) for kind in re.findall(r"[A-Z]\w+", fields.get((item.owner, field), ""))}
@@ -304,8 +306,17 @@ def used_by(crate):
     return found
 
 
+@functools.cache
+def crates_under(crate):
+    """A crate and those that it is built on."""
+    return {*workspace.with_below([crate])}
+
+
 def is_used(item, by):
-    """Whether a function uses another: by its path, by a field of its own type, or as a private method of its crate."""
+    """Whether a function uses another, of its own crate or of one below: by its path, by a field of its own type, or as a private method of
+    its crate."""
+    if item.crate not in crates_under(by.crate):
+        return False
     uses = used_by(by.crate)[id(by)]
     is_private_method = item.owner and not item.is_public and not item.trait and item.crate == by.crate
     return (item.owner, item.name) in uses or bool(is_private_method and ("*", item.name) in uses)
@@ -346,6 +357,8 @@ def readings_of(word, owner):
     every = [item for item in product_functions() if item.kind != "ghost"]
     if word in workspace.CRATES:
         return [[item for item in functions_of(word) if is_offered(item)]]
+    if kind in workspace.CRATES:
+        return [[item for item in functions_of(kind) if is_offered(item) and is_named(item, "", name)]]
     if not kind and word[0].isupper() and not word.isupper():
         return [[item for item in product_functions() if is_of_kind(item, word)]]
     found = [[item for item in every if is_named(item, reading, name)] for reading in ([kind] if kind else [owner, ""])]

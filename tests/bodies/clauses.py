@@ -2,7 +2,9 @@
 
 A goal is named for what it proves. Here it goes by the clause's name; an `ensures` without one is `ensures`. What a function proves on its way has a
 clause too: `invariant NAME` of a type's ghost fields, `requires NAME of FUNCTION` of a call, `loop NAME` of a loop's invariant or end. A body
-that changes several functions says of which: `clause: NAME of FUNCTION`."""
+that changes several functions says of which: `clause: NAME of FUNCTION`.
+
+If the prover gives up before it splits a contract, it names the whole of it. So `ensures` agrees with each clause that its function ensures."""
 import re
 
 import made_pages
@@ -51,12 +53,24 @@ def shown(body, found):
     return sorted(clause if len(body.functions) == 1 else f"{clause} of {function}" for function, clause in found)
 
 
-def fault(body, verdict):
-    """What is wrong with the lines of a body that is refused, or ''. If only an answer by hand can tell, a person may choose among the clauses that
-    are left."""
-    told = told_by(body, verdict)
-    wrong = recorded(body) - told
-    if not wrong or (verdict.is_by_hand and not told):
+def is_ensured(clause):
+    """Whether a clause is one that a function ensures, or all of these."""
+    return bool(re.fullmatch(r"\w+", clause)) and clause != "invariant"
+
+
+def agrees(named, told):
+    """Whether a clause, with its function, is among those that the prover names, or one of them is the whole contract and the other a part of it."""
+    function, clause = named
+    others = {other for of, other in told if of == function and is_ensured(other)}
+    return named in told or ("ensures" in others and is_ensured(clause)) or (clause == "ensures" and bool(others))
+
+
+def fault(body, verdict, is_strict):
+    """What is wrong with the lines of a body that is refused, or ''. One line that agrees with the prover is enough, unless a strict trial wants that of
+    each. If only an answer by hand can tell, a person may choose among the clauses that are left."""
+    told, said = told_by(body, verdict), recorded(body)
+    wrong = {named for named in said if not agrees(named, told)}
+    if not wrong or (wrong != said and not is_strict) or (verdict.is_by_hand and not told):
         return ""
     says, names = (", ".join(shown(body, found)) or "none" for found in (wrong, told))
     return f"its line says that {says} refuses it, and the prover names {names}; --record writes that"

@@ -54,6 +54,10 @@ class Body:
             texts[answers] = without(text_of(self.crate, answers, texts), names)
         return texts
 
+    def begin_anew(self):
+        """Leaves no answer out, as before the first check."""
+        self.left_out, self.is_renamed = {}, False
+
     def leaves_out(self, misfits, told):
         """Leaves out the answers that don't fit, and the declarations that wait for them. Returns whether any of these is new."""
         before = sum(map(len, self.left_out.values()))

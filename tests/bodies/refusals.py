@@ -21,30 +21,33 @@ def judges():
 
 
 @functools.cache
-def rests_of(crate, folder):
-    """A sum of all that the refusals of a crate's wrong bodies rest on beside their edits, over libraries that were made of the files of a folder."""
+def rests_of(crate, folder, is_short):
+    """A sum of all that the refusals of a crate's wrong bodies, in short checks or not, rest on beside their edits, over libraries that were made of
+    the files of a folder."""
     below = workspace.sum_of([used for used in workspace.with_below([crate]) if used != crate], folder)
     line = (workspace.KINDS[crate], workspace.CRATES[crate])
-    return kept.sum_of(kept.toolchain(), judges(), trial.words_of(crate, ""), line, sorted(edits.files_of(crate).items()), below)
+    return kept.sum_of(kept.toolchain(), judges(), trial.words_of(crate, "", is_short), line, sorted(edits.files_of(crate).items()), below)
 
 
-def name_of(body, folder):
+def name_of(body, folder, is_short):
     """The name under which the refusal of a wrong body is kept."""
-    return kept.sum_of("refused", rests_of(body.crate, folder), body.edit)
+    return kept.sum_of("refused", rests_of(body.crate, folder, is_short), body.edit)
 
 
-def read(body, folder):
-    """The verdict that is kept of a wrong body, over libraries that were made of the files of a folder, or None."""
-    try:
-        words, is_by_hand, goals = kept.read(name_of(body, folder))
-        if isinstance(words, str) and isinstance(is_by_hand, bool):
-            return trial.Verdict(True, words, is_by_hand, goals=frozenset((function, goal) for function, goal in goals))
-    except (ValueError, TypeError):
-        pass
+def read(body, folder, is_short):
+    """The verdict that is kept of a wrong body, over libraries that were made of the files of a folder, or None: that of whole checks, or else that of
+    short ones if these serve too."""
+    for kind in (False, True)[: 1 + is_short]:
+        try:
+            words, is_by_hand, goals = kept.read(name_of(body, folder, kind))
+            if isinstance(words, str) and isinstance(is_by_hand, bool):
+                return trial.Verdict(True, words, is_by_hand, goals=frozenset((function, goal) for function, goal in goals))
+        except (ValueError, TypeError):
+            pass
     return None
 
 
-def keep(body, verdict, folder):
+def keep(body, verdict, folder, is_short):
     """Keeps the refusal of a wrong body; what is not refused is not kept."""
     if verdict.is_refused:
-        kept.keep(name_of(body, folder), [verdict.words, verdict.is_by_hand, sorted(verdict.goals)])
+        kept.keep(name_of(body, folder, is_short), [verdict.words, verdict.is_by_hand, sorted(verdict.goals)])

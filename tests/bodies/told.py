@@ -94,8 +94,12 @@ def is_in_file(path, source):
 
 
 def function_at(text, at):
-    """The name of the function in which a line of a file stands, and the head of its impl or trait."""
-    above = text.split("\n")[:at]
+    """The name of the function in which a line of a file stands, and the head of its impl or trait. A function begins with its docs and attributes:
+    the prover names it by the line of the first one."""
+    lines = text.split("\n")
+    while at < len(lines) and re.match(r"\s*(#\[|//|$)", lines[at - 1]):
+        at += 1
+    above = lines[:at]
     while above and not re.search(r"\bfn \w+", above[-1]):
         above.pop()
     if not above:

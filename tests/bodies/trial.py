@@ -4,33 +4,30 @@ import os
 import re
 import subprocess
 import tempfile
-import time
 
 import kept
 import workspace
 from bodies.edits import Body, files_of
 from bodies.told import Told
 
-# How many of a crate's wrong bodies one lane tries at most.
-MOST = 60
 # What the prover says of a goal that an answer names and that an edit took away.
 GONE = re.compile(r"\.Goals` has no `")
 # The goals of single steps, as that a sum fits its type. A body with other steps has others, which may be true and want an answer.
 OF_STEP = re.compile(r"(overflow|nonzero|bounds|slice_bounds|offset_bounds)[_-]")
 
 
-def words_of(crate, libraries):
-    """The words of a check of a crate, but for the functions, over the libraries of a workspace."""
-    words = [f"{kept.kit()}/bin/rattle", "check", "--crate-name", crate, "src/lib.rt", "--jobs", "1"]
+def words_of(crate, libraries, is_short):
+    """The words of a check of a crate, but for the functions, over the libraries of a workspace. In a short one each search has half of its counts."""
+    words = [f"{kept.kit()}/bin/rattle", "check", "--crate-name", crate, "src/lib.rt", "--jobs", "1"] + ["--margin"] * is_short
     return words + workspace.words_over(workspace.CRATES[crate], libraries)
 
 
 class Crate:
-    """The checks of one crate, over the libraries of a workspace and what the checks before left in a folder, and how many they were; and
-    whether the function as it stands is tried too."""
+    """The checks of one crate, over the libraries of a workspace and what the checks before left in a folder, and how many they were; whether they
+    are short; and whether the function as it stands is tried too."""
 
-    def __init__(self, name, libraries, before, compares):
-        self.name, self.libraries, self.before, self.compares, self.checks = name, libraries, before, compares, 0
+    def __init__(self, name, libraries, before, is_short, compares):
+        self.name, self.libraries, self.before, self.is_short, self.compares, self.checks = name, libraries, before, is_short, compares, 0
 
     def check(self, bodies):
         """What the prover tells of the crate with these wrong bodies in it."""
@@ -43,7 +40,7 @@ class Crate:
                 os.makedirs(os.path.dirname(f"{room}/{path}"), exist_ok=True)
                 with open(f"{room}/{path}", "w", encoding="utf-8") as file:
                     file.write(text)
-            words = [*words_of(self.name, self.libraries), "--incremental", self.before]
+            words = [*words_of(self.name, self.libraries, self.is_short), "--incremental", self.before]
             words += [word for body in bodies for function in body.functions for word in ("--only", function)]
             ran = subprocess.run(words, cwd=room, stdin=subprocess.DEVNULL, stdout=subprocess.PIPE, stderr=subprocess.STDOUT, text=True)
         return Told(bodies, texts, ran.stdout)
@@ -158,20 +155,3 @@ def try_all(crate, bodies):
     if crate.compares:
         settle(crate, verdicts)
     return verdicts
-
-
-def shares(bodies):
-    """A crate's wrong bodies in shares of at most MOST, which lanes try side by side. Those of one function go to different shares, since each wants
-    a check of its own."""
-    number = -(-len(bodies) // MOST)
-    dealt = sorted(bodies, key=lambda body: body.functions)
-    return [dealt[first::number] for first in range(number)]
-
-
-def tried(name, bodies, libraries, compares):
-    """Wrong bodies of a crate, each with its verdict, and how many seconds and checks they took."""
-    started = time.monotonic()
-    with tempfile.TemporaryDirectory(prefix="wrong-bodies-before-") as before:
-        crate = Crate(name, libraries, before, compares)
-        verdicts = try_all(crate, bodies)
-    return [(body, verdicts[body]) for body in bodies], time.monotonic() - started, crate.checks
