@@ -40,6 +40,8 @@ struct State {
   std::int64_t version = -1;
   std::int64_t last = 0;
   std::uint32_t tip = 0, saved = 0;
+  // The last step whose labels and cells are listed, and the sum of the numbers of the rows that list them.
+  std::int64_t listed = 0, listed_sum = 0;
   Limits limits;
 };
 
@@ -75,7 +77,9 @@ class Book {
     if (number("PRAGMA application_id") != mark) spoilt("it is no file of an index");
     const std::int64_t found = number("PRAGMA user_version");
     if (found > form) throw LaterForm(connection_.path(), found, form);
-    if (found < form) throw FileError(connection_.path(), "an older version of s2ix wrote the file: s2ix.Durable of Python takes it over");
+    if (found < form) {
+      throw FileError(connection_.path(), "s2ix 1.1 wrote the file: open it once by Durable of the Python package, which takes it over");
+    }
     Statement tables(connection_,
                      "SELECT type, name, tbl_name, sql FROM sqlite_master WHERE lower(substr(name, 1, 5)) = 's2ix_' OR "
                      "lower(substr(tbl_name, 1, 5)) = 's2ix_' ORDER BY name");
@@ -87,8 +91,9 @@ class Book {
 
   // The state of the file.
   [[nodiscard]] State state() const {
-    Statement row(connection_, "SELECT version, last, tip, saved, pairs, copies, changes, seal FROM s2ix_state LIMIT 2");
-    constexpr int last = 7;
+    Statement row(connection_,
+                  "SELECT version, last, tip, saved, listed, listed_sum, pairs, copies, changes, seal FROM s2ix_state LIMIT 2");
+    constexpr int last = 9;
     bool is_whole = row.next();
     Seal seal;
     for (int column = 0; is_whole && column <= last; column++) {
@@ -96,10 +101,23 @@ class Book {
       if (is_whole && column < last) seal.add(row.integer(column));
     }
     if (!is_whole || row.integer(last) != seal.sum()) spoilt("its state is not as it was written");
-    const State found{row.integer(0), row.integer(1), narrow(row.integer(2)), narrow(row.integer(3)),
-                      Limits{narrow(row.integer(4)), narrow(row.integer(5)), narrow(row.integer(6))}};
+    const State found{row.integer(0), row.integer(1), narrow(row.integer(2)), narrow(row.integer(3)), row.integer(4), row.integer(5),
+                      Limits{narrow(row.integer(6)), narrow(row.integer(7)), narrow(row.integer(8))}};
     if (row.next()) spoilt("it has several states");
     return found;
+  }
+
+  // Throws unless the labels and cells are listed as a state has it; but a large file isn't looked through. O(k) for all k rows that list
+  // them.
+  void check_lists(const State& state) const {
+    constexpr std::int64_t few_pages = 4096;
+    if (number("PRAGMA page_count") > few_pages) return;
+    Statement row(connection_,
+                  "SELECT (SELECT coalesce(sum((abs(label % 65521) + 1) * (step % 65521 + 1)), 0) FROM s2ix_label) + "
+                  "(SELECT coalesce(sum((abs(cell % 65521) + 1) * (step % 65521 + 1)), 0) FROM s2ix_cell)");
+    // (SQL takes 2.5 for 2 here, but then the sum is no integer)
+    const bool is_whole = row.next() && row.is_integer(0) && row.integer(0) == state.listed_sum;
+    if (!is_whole) spoilt("its labels or cells are listed in another way");
   }
 
   // The step of the oldest saved state, after which the log goes on.
@@ -107,18 +125,16 @@ class Book {
 
   // The last saved state that is at most that after a step, if there is one.
   [[nodiscard]] std::optional<Saved> saved(std::int64_t most) const {
-    Statement row(connection_, "SELECT step, tip, standing, undone, dump, seal FROM s2ix_saved WHERE step <= ? ORDER BY step DESC LIMIT 1");
+    Statement row(connection_, "SELECT step, tip, standing, undone, changes, dump, seal FROM s2ix_saved WHERE step <= ? ORDER BY step DESC LIMIT 1");
     row.bind(1, most);
     if (!row.next()) return {};
-    bool is_whole = row.is_integer(1) && row.is_integer(5);
+    const bool is_whole = row.is_integer(1) && row.is_text(2) && row.is_text(3) && row.is_integer(4) && row.is_text(5) && row.is_integer(6);
     Seal seal;
-    if (is_whole) seal.add(row.integer(0)).add(row.integer(1));
-    for (int column = 2; is_whole && column < 5; column++) {
-      is_whole = row.is_text(column);
-      if (is_whole) seal.add(row.text(column));
+    if (is_whole) {
+      seal.add(row.integer(0)).add(row.integer(1)).add(row.text(2)).add(row.text(3)).add(row.integer(4)).add(row.text(5));
     }
-    if (!is_whole || row.integer(5) != seal.sum()) spoilt("a saved state is not as it was written");
-    return Saved{row.integer(0), narrow(row.integer(1)), std::string(row.text(4)), seal.sum()};
+    if (!is_whole || row.integer(6) != seal.sum()) spoilt("a saved state is not as it was written");
+    return Saved{row.integer(0), narrow(row.integer(1)), std::string(row.text(5)), seal.sum()};
   }
 
   // Calls `take` with each step after one, up to another, and returns the seal of the last of them. That of the first goes on from `tip`.
@@ -134,6 +150,18 @@ class Book {
       take(step);
     }
     return tip;
+  }
+
+  // Throws unless the steps behind an id go on from a seal, that of the last step up to there: if its number was left out, they do; if its
+  // row is gone, they don't.
+  void expect_none_gone(std::int64_t id, std::uint32_t tip) const {
+    Statement row(connection_, "SELECT id, time, who, note, kind, of_step, change, seal FROM s2ix_step WHERE id > ? ORDER BY id LIMIT 1");
+    row.bind(1, id);
+    if (row.next()) {
+      static_cast<void>(step_at(row, tip));
+    } else if (tip != state().tip) {
+      spoilt("its steps are those of another state");
+    }
   }
 
   // The step with an id, if the log has it.
@@ -181,7 +209,7 @@ class Book {
   }
 
   // The last step that was made at a time, in microseconds since 1970, or before it: one of those from `low` to `last`. It halves the log,
-  // whose times mostly rise.
+  // whose times never fall.
   [[nodiscard]] std::int64_t at_time(std::int64_t time, std::int64_t low, std::int64_t last) const {
     while (low < last) {
       const std::int64_t middle = low + (last - low + 1) / 2;
@@ -217,10 +245,11 @@ class Book {
        "CREATE TABLE s2ix_label (label INTEGER, step INTEGER, PRIMARY KEY (label, step)) WITHOUT ROWID"},
       {"index", "s2ix_of", "s2ix_step", "CREATE INDEX s2ix_of ON s2ix_step (of_step) WHERE of_step IS NOT NULL"},
       {"table", "s2ix_saved", "s2ix_saved",
-       "CREATE TABLE s2ix_saved (step INTEGER PRIMARY KEY, tip INTEGER, standing TEXT, undone TEXT, dump TEXT, seal INTEGER)"},
+       "CREATE TABLE s2ix_saved (step INTEGER PRIMARY KEY, tip INTEGER, standing TEXT, undone TEXT, changes INTEGER, dump TEXT, "
+       "seal INTEGER)"},
       {"table", "s2ix_state", "s2ix_state",
-       "CREATE TABLE s2ix_state (version INTEGER, last INTEGER, tip INTEGER, saved INTEGER, pairs INTEGER, copies INTEGER, "
-       "changes INTEGER, seal INTEGER)"},
+       "CREATE TABLE s2ix_state (version INTEGER, last INTEGER, tip INTEGER, saved INTEGER, listed INTEGER, listed_sum INTEGER, "
+       "pairs INTEGER, copies INTEGER, changes INTEGER, seal INTEGER)"},
       {"table", "s2ix_step", "s2ix_step",
        "CREATE TABLE s2ix_step (id INTEGER PRIMARY KEY, time INTEGER, who TEXT, note TEXT, kind TEXT, of_step INTEGER, change TEXT, "
        "seal INTEGER)"},

@@ -11,6 +11,7 @@
 #include <cstdint>
 #include <cstdio>
 #include <functional>
+#include <initializer_list>
 #include <iterator>
 #include <limits>
 #include <memory>
@@ -34,6 +35,42 @@ inline std::string printed(Cell cell) {
   return text;
 }
 
+// An object that lies apart from its owner, and is copied with it. There is none before it is made. (No call that isn't inlined gets a pointer to
+// the owner, so the compiler can keep an iterator that owns a page in registers.)
+template <class Object>
+class Apart {
+ public:
+  Apart() noexcept = default;
+  explicit Apart(Object* object) noexcept : object_(object) {}
+  Apart(Apart&& other) noexcept : object_(std::exchange(other.object_, nullptr)) {}
+  Apart(const Apart& other) : object_(other.object_ == nullptr ? nullptr : new Object(*other.object_)) {}
+  // (not one that takes its object by value: what copies its owner would be noexcept, though the copy may throw)
+  Apart& operator=(const Apart& other) { return *this = Apart(other); }
+  Apart& operator=(Apart&& other) noexcept {
+    Apart taken(std::move(other));
+    std::swap(object_, taken.object_);
+    return *this;
+  }
+  ~Apart() {
+    if (object_ != nullptr) free(object_);
+  }
+
+  // The object, which is made if there is none.
+  [[nodiscard]] Object* made() {
+    if (object_ == nullptr) object_ = new Object();
+    return object_;
+  }
+
+  // The object, if it was made.
+  [[nodiscard]] const Object& operator*() const noexcept { return *object_; }
+  [[nodiscard]] const Object* operator->() const noexcept { return object_; }
+
+ private:
+  [[gnu::noinline]] static void free(Object* object) noexcept { delete object; }
+
+  Object* object_ = nullptr;
+};
+
 // Whether a set can be told how many items it will hold.
 template <class Set, class = void>
 struct HasReserve : std::false_type {};
@@ -47,9 +84,9 @@ struct HasReserve<Set, std::void_t<decltype(std::declval<Set&>().reserve(std::si
 //   S2                                            here
 //   Build() comes once, between adds and queries  any number of times: it makes one change of the adds since the last Build()
 //   no query before Build()                       queries, index() and a CellIterator build first; other iterators don't
-//   several threads may query at once             they may too, each with iterators of its own; their calls take turns. Build() first, if they
-//                                                 use RangeIterators. No other call may run beside an Add(), a Clear(), a
-//                                                 move, or an edit through index()
+//   several threads may query at once             they may too, each with iterators of its own, also while another edits through index(),
+//                                                 which moves the ranges. Build() first, if they use RangeIterators. No other call
+//                                                 may run beside an Add(), a Clear() or a move
 //   Clear()                                       drops the changes too: nothing is left to undo
 //   any number of pairs                           limits: at most 1,000,000 distinct pairs; Build() throws above them
 //   an invalid cell, a label below 0: undefined   Add and the queries throw Error
@@ -64,7 +101,7 @@ struct HasReserve<Set, std::void_t<decltype(std::declval<Set&>().reserve(std::si
 //   Seek() to what is no leaf: undefined          throws Error, and the iterator stays
 //   Advance(n) takes n below 0                    returns false, and the iterator stays
 //   a ContentsIterator states no order            gives the innermost cell first, the labels of one cell rising
-//   GetIntersectingLabels gives absl's set        a std::unordered_set, or any set that is passed
+//   GetIntersectingLabels gives absl's set        a LabelSet, of which any set can be made, or any set that is passed
 //
 // A thread that visits or asks for labels keeps up to 80 kB of room for its next query, until it ends.
 //
@@ -168,7 +205,7 @@ class BasicS2CellIndex {
     detail::Page<Row> page;
     std::size_t from = 0;
     for (std::size_t most = page.least;; most *= 4) {
-      const std::size_t number = beneath.put_met(cells, from, page.data(), most);
+      const std::size_t number = Index::put_met(visit, cells, from, page.data(), most);
       for (const Row& row : Items<Row>(page.data(), page.data() + number)) {
         for (std::uint32_t copy = 0; copy < row.count; copy++) {
           if (!visitor(Id(row.cell), static_cast<Label>(row.label))) return false;
@@ -180,11 +217,83 @@ class BasicS2CellIndex {
     }
   }
 
+  // A set of labels, in rising order. It is one list, since a hashed set takes longer to make than its labels to find. Any set can be made of
+  // it, as by `std::unordered_set<Label> labels = index.GetIntersectingLabels(target)`.
+  class LabelSet {
+   public:
+    using value_type = Label;
+    using size_type = std::size_t;
+    using const_iterator = typename std::vector<Label>::const_iterator;
+    using iterator = const_iterator;
+
+    LabelSet() = default;
+    LabelSet(std::initializer_list<Label> labels) {
+      for (Label label : labels) insert(label);
+    }
+
+    [[nodiscard]] const_iterator begin() const noexcept { return labels_.begin(); }
+    [[nodiscard]] const_iterator end() const noexcept { return labels_.end(); }
+    [[nodiscard]] size_type size() const noexcept { return labels_.size(); }
+    [[nodiscard]] bool empty() const noexcept { return labels_.empty(); }
+
+    // Each takes O(log n).
+    [[nodiscard]] const_iterator find(Label label) const {
+      const const_iterator at = std::lower_bound(begin(), end(), label);
+      return at != end() && *at == label ? at : end();
+    }
+    [[nodiscard]] bool contains(Label label) const { return find(label) != end(); }
+    [[nodiscard]] size_type count(Label label) const { return contains(label) ? 1 : 0; }
+
+    // Each takes O(n).
+    std::pair<iterator, bool> insert(Label label) {
+      const const_iterator at = std::lower_bound(begin(), end(), label);
+      if (at != end() && *at == label) return {at, false};
+      return {labels_.insert(at, label), true};
+    }
+    size_type erase(Label label) {
+      const const_iterator at = find(label);
+      if (at == end()) return 0;
+      labels_.erase(at);
+      return 1;
+    }
+    void clear() noexcept { labels_.clear(); }
+
+    template <class Set,
+              class = std::enable_if_t<std::is_same_v<typename Set::value_type, Label> && std::is_constructible_v<Set, const_iterator, const_iterator>>>
+    operator Set() const {
+      return Set(begin(), end());
+    }
+
+    friend bool operator==(const LabelSet& one, const LabelSet& other) { return one.labels_ == other.labels_; }
+    friend bool operator!=(const LabelSet& one, const LabelSet& other) { return !(one == other); }
+    template <class Set, class = decltype(std::declval<const Set&>().count(Label{}))>
+    friend bool operator==(const LabelSet& labels, const Set& set) {
+      return labels.size() == set.size() && std::all_of(labels.begin(), labels.end(), [&](Label label) { return set.count(label) > 0; });
+    }
+    template <class Set, class = decltype(std::declval<const Set&>().count(Label{}))>
+    friend bool operator==(const Set& set, const LabelSet& labels) {
+      return labels == set;
+    }
+    template <class Set, class = decltype(std::declval<const Set&>().count(Label{}))>
+    friend bool operator!=(const LabelSet& labels, const Set& set) {
+      return !(labels == set);
+    }
+    template <class Set, class = decltype(std::declval<const Set&>().count(Label{}))>
+    friend bool operator!=(const Set& set, const LabelSet& labels) {
+      return !(labels == set);
+    }
+
+   private:
+    friend class BasicS2CellIndex;
+
+    std::vector<Label> labels_;
+  };
+
   // The labels of those pairs.
   template <class Union>
-  std::unordered_set<Label> GetIntersectingLabels(const Union& target) const {
-    std::unordered_set<Label> labels;
-    GetIntersectingLabels(target, &labels);
+  LabelSet GetIntersectingLabels(const Union& target) const {
+    LabelSet labels;
+    with_labels(target, [&](const std::uint32_t* first, std::size_t number) { labels.labels_.assign(first, first + number); });
     return labels;
   }
 
@@ -192,64 +301,75 @@ class BasicS2CellIndex {
   template <class Union, class Set>
   void GetIntersectingLabels(const Union& target, Set* labels) const {
     labels->clear();
-    const Index& beneath = built();
-    const detail::Given cells(target);
-    detail::Page<std::uint32_t> page;
-    const std::size_t number = beneath.put_labels(cells, page);
-    if constexpr (detail::HasReserve<Set>::value) labels->reserve(number);
-    for (std::uint32_t label : Items<std::uint32_t>(page.data(), page.data() + number)) labels->insert(static_cast<Label>(label));
+    with_labels(target, [&](const std::uint32_t* first, std::size_t number) {
+      if constexpr (detail::HasReserve<Set>::value) labels->reserve(number);
+      for (std::uint32_t label : Items<std::uint32_t>(first, first + number)) labels->insert(static_cast<Label>(label));
+    });
   }
 
   // Gives all pairs, each copy of each, by rising cell, then label. It reads them page by page: more than one page from a copy of the index,
   // which shares memory with it.
   class CellIterator {
    public:
-    explicit CellIterator(const BasicS2CellIndex* index) {
-      const Index& beneath = index->built();
-      detail::check(beneath.handle_.with([&](::s2ix_handle* handle) {
-        std::size_t held = 0;
-        std::uint32_t status = s2ix_len(handle, &held);
-        if (status != S2IX_DONE || held == 0) return status;
-        rows_.resize(std::min(held, page));
-        status = read(handle, 0);
-        if (status != S2IX_DONE || held <= page) return status;
-        // (the other pages are read from a copy, which no edit changes)
-        rest_ = std::make_shared<detail::Handle>();
-        return s2ix_copy(handle, rest_->unlocked());
-      }));
-    }
+    explicit CellIterator(const BasicS2CellIndex* index) : page_(first_page(index->built())), size_(page_->size) {}
 
-    Id cell_id() const { return Id(rows_[row_].cell); }
-    Label label() const { return static_cast<Label>(rows_[row_].label); }
+    Id cell_id() const { return Id(row().cell); }
+    Label label() const { return static_cast<Label>(row().label); }
     LabelledCell labelled_cell() const { return LabelledCell(cell_id(), label()); }
 
     // Whether all pairs have been given. If so, call no other method.
     bool done() const { return row_ == size_; }
 
     void Next() {
-      if (++copy_ < rows_[row_].count) return;
+      if (++copy_ < row().count) return;
       copy_ = 0;
-      if (++row_ < size_ || rest_ == nullptr || size_ < page) return;
-      from_ += size_;
-      detail::check(rest_->with([&](::s2ix_handle* handle) { return read(handle, from_); }));
+      if (++row_ < size_) return;
+      size_ = next_page(page_.made());
+      row_ = 0;
     }
 
    private:
-    static constexpr std::size_t page = 1024;
-
-    // Reads the page of pairs from a place on.
-    std::uint32_t read(::s2ix_handle* handle, std::size_t from) {
-      row_ = 0;
-      return s2ix_pairs(handle, from, rows_.data(), rows_.size(), &size_);
-    }
+    static constexpr std::size_t most = 1024;
 
     // A page of pairs, how many there are in it, and the place of its first one.
-    std::vector<Row> rows_;
-    std::size_t size_ = 0, from_ = 0;
-    std::size_t row_ = 0;
+    struct Page {
+      std::vector<Row> rows;
+      std::size_t size = 0, from = 0;
+      // What all pages are read from, if there are several.
+      std::shared_ptr<detail::Handle> rest;
+
+      std::uint32_t read(::s2ix_handle* handle) { return s2ix_pairs(handle, from, rows.data(), rows.size(), &size); }
+    };
+
+    [[gnu::noinline]] static Page* first_page(const Index& beneath) {
+      auto page = std::make_unique<Page>();
+      detail::check(beneath.handle_.ask([&](::s2ix_handle* handle) {
+        std::size_t held = 0;
+        std::uint32_t status = s2ix_len(handle, &held);
+        if (status != S2IX_DONE || held == 0) return status;
+        page->rows.resize(std::min(held, most));
+        status = page->read(handle);
+        if (status != S2IX_DONE || held <= most) return status;
+        // (the other pages are read from a copy, which no edit changes)
+        page->rest = std::make_shared<detail::Handle>();
+        return s2ix_copy(handle, page->rest->unlocked());
+      }));
+      return page.release();
+    }
+
+    // Reads the page after one in its place, and returns how many pairs there are in it.
+    [[gnu::noinline]] static std::size_t next_page(Page* page) {
+      if (page->rest == nullptr || page->size < most) return 0;
+      page->from += page->size;
+      detail::check(page->rest->with([&](::s2ix_handle* handle) { return page->read(handle); }));
+      return page->size;
+    }
+
+    const Row& row() const { return page_->rows[row_]; }
+
+    detail::Apart<Page> page_;
+    std::size_t size_ = 0, row_ = 0;
     std::uint32_t copy_ = 0;
-    // What all pages are read from, if there are several.
-    std::shared_ptr<detail::Handle> rest_;
   };
 
   class ContentsIterator;
@@ -261,22 +381,21 @@ class BasicS2CellIndex {
     explicit RangeIterator(const BasicS2CellIndex* index) : index_(index) {}
 
     // The first leaf of the range; the end of all leaves, 0xc000000000000001, if the iterator is done.
-    Id start_id() const { return Id(start_); }
+    Id start_id() const { return Id(here_.start); }
 
     // The leaf with which the next range begins; the end of all leaves after the last one.
-    Id limit_id() const { return Id(limit_); }
+    Id limit_id() const { return Id(here_.limit); }
 
     // Whether the iterator stands after the last range.
-    bool done() const { return start_ == end_of_leaves; }
+    bool done() const { return here_.start == end_of_leaves; }
 
     // Whether no pair lies over the range; true if the iterator is done.
     bool is_empty() const {
       if (!knows_empty_) {
-        std::uint64_t start = 0, limit = 0;
-        with([&](::s2ix_handle* handle) { return s2ix_range(handle, place_, &start, &limit, &is_empty_); });
+        here_.is_empty = is_empty_at(index_, place_);
         knows_empty_ = true;
       }
-      return is_empty_;
+      return here_.is_empty;
     }
 
     void Begin() { go(0); }
@@ -285,7 +404,21 @@ class BasicS2CellIndex {
     void Finish() { go(index_->index_.range_count()); }
 
     void Next() {
-      if (!done()) go(place_ + 1);
+      if (at_ == size_) {
+        if (done()) return;
+        if (goes_on_) {
+          size_ = next_page(index_, place_ + 1, page_.made(), size_);
+          at_ = 0;
+        }
+        if (size_ == 0) {
+          go(place_ + 1);
+          goes_on_ = true;
+          return;
+        }
+      }
+      here_ = (*page_)[at_++];
+      knows_empty_ = true;
+      place_++;
     }
 
     // Goes to the range before and returns true; returns false at the first range, and stays.
@@ -299,9 +432,9 @@ class BasicS2CellIndex {
     void Seek(Id target) {
       const Range found = index_->index_.find(raw(target));
       place_ = found.place;
-      start_ = found.start;
-      limit_ = found.limit;
+      here_ = Stand{found.start, found.limit, true};
       knows_empty_ = false;
+      drop_page();
     }
 
     // Goes n ranges on and returns true, if there is a range; else it returns false and stays.
@@ -316,38 +449,79 @@ class BasicS2CellIndex {
     std::size_t place() const { return place_; }
     std::size_t place_of(const Id& leaf) const { return index_->index_.find(raw(leaf)).place; }
 
-    // Makes a call with the handle, while no other runs.
+    // Makes a call that reads what is held.
     template <class Call>
-    auto with(Call call) const {
-      return index_->index_.handle_.with(call);
+    auto ask(Call call) const {
+      return index_->index_.handle_.ask(call);
     }
 
     // Goes to the range at a place, or after the last one if there is none.
     void go(std::size_t place) {
-      std::uint64_t start = 0, limit = 0;
-      bool is_empty = true;
-      const std::uint32_t status = with([&](::s2ix_handle* handle) { return s2ix_range(handle, place, &start, &limit, &is_empty); });
-      if (status == S2IX_NO_RANGE) {
-        place = index_->index_.range_count();
-        start = limit = end_of_leaves;
-      } else {
-        detail::check(status);
-      }
-      place_ = place;
-      start_ = start;
-      limit_ = limit;
-      is_empty_ = is_empty;
+      const At found = found_at(index_, place);
+      place_ = found.place;
+      here_ = found.range;
       knows_empty_ = true;
+      drop_page();
     }
 
    private:
     friend class ContentsIterator;
 
+    using Stand = ::s2ix_leaf_range;
+    struct At {
+      std::size_t place;
+      Stand range;
+    };
+
+    // (what calls the library gets no pointer to the iterator, for which see detail::Apart)
+
+    // The range at a place, or what stands after the last one if there is none.
+    [[gnu::noinline]] static At found_at(const BasicS2CellIndex* index, std::size_t place) {
+      At found{place, {}};
+      const std::uint32_t status = read(index, place, found.range);
+      if (status == S2IX_NO_RANGE) return {index->index_.range_count(), {end_of_leaves, end_of_leaves, true}};
+      detail::check(status);
+      return found;
+    }
+
+    [[gnu::noinline]] static bool is_empty_at(const BasicS2CellIndex* index, std::size_t place) {
+      Stand range{};
+      read(index, place, range);
+      return range.is_empty;
+    }
+
+    static std::uint32_t read(const BasicS2CellIndex* index, std::size_t place, Stand& range) {
+      return index->index_.handle_.ask([&](::s2ix_handle* handle) { return s2ix_range(handle, place, &range.start, &range.limit, &range.is_empty); });
+    }
+
+    static constexpr std::size_t first_page = 16, longest_page = 512;
+
+    using Page = std::vector<Stand>;
+
+    // Reads a page of the ranges from a place on, twice as long as the last one up to the longest, and returns how many there are in it.
+    [[gnu::noinline]] static std::size_t next_page(const BasicS2CellIndex* index, std::size_t from, Page* page, std::size_t last) {
+      const std::size_t room = last == 0 ? first_page : std::min(2 * last, longest_page);
+      if (page->size() < room) page->resize(room);
+      std::size_t number = 0;
+      detail::check(index->index_.handle_.ask([&](::s2ix_handle* handle) { return s2ix_ranges(handle, from, page->data(), room, &number); }));
+      return number;
+    }
+
+    void drop_page() {
+      at_ = size_ = 0;
+      goes_on_ = false;
+    }
+
+    // (first, so that nothing is assigned if memory for a copy of it is refused)
+    detail::Apart<Page> page_;
     const BasicS2CellIndex* index_;
     std::size_t place_ = 0;
-    std::uint64_t start_ = end_of_leaves, limit_ = end_of_leaves;
+    mutable Stand here_{end_of_leaves, end_of_leaves, true};
     // (Seek leaves it to is_empty() to ask for this)
-    mutable bool is_empty_ = true, knows_empty_ = true;
+    mutable bool knows_empty_ = true;
+    // The ranges that follow, from at_ on, if several were gone along.
+    bool goes_on_ = false;
+    std::size_t at_ = 0, size_ = 0;
   };
 
   // Goes along the ranges over which some pair lies.
@@ -357,14 +531,16 @@ class BasicS2CellIndex {
 
     void Begin() { go_on(0); }
 
+    // (of two ranges side by side, a pair lies over one at least)
     void Next() {
-      if (!this->done()) go_on(this->place() + 1);
+      RangeIterator::Next();
+      if (this->is_empty()) RangeIterator::Next();
     }
 
     // Goes to the last such range before and returns true; returns false if there is none, and stays.
     bool Prev() {
       std::size_t place = 0;
-      const std::uint32_t status = this->with([&](::s2ix_handle* handle) { return s2ix_previous_full(handle, this->place(), &place); });
+      const std::uint32_t status = this->ask([&](::s2ix_handle* handle) { return s2ix_previous_full(handle, this->place(), &place); });
       if (status == S2IX_NO_RANGE) return false;
       detail::check(status);
       this->go(place);
@@ -378,7 +554,7 @@ class BasicS2CellIndex {
     // Goes to the first such range from a place on, or after the last one.
     void go_on(std::size_t from) {
       std::size_t place = 0;
-      const std::uint32_t status = this->with([&](::s2ix_handle* handle) { return s2ix_next_full(handle, from, &place); });
+      const std::uint32_t status = this->ask([&](::s2ix_handle* handle) { return s2ix_next_full(handle, from, &place); });
       if (status == S2IX_NO_RANGE) return this->Finish();
       detail::check(status);
       this->go(place);
@@ -406,12 +582,12 @@ class BasicS2CellIndex {
 
     // Goes to the range's first pair that was not given yet. If the range lies before the last one, all its pairs are given.
     void StartUnion(const RangeIterator& range) {
-      if (range.start_ < start_) told_ = 0;
-      start_ = range.start_;
-      limit_ = range.limit_;
+      if (range.here_.start < start_) told_ = 0;
+      start_ = range.here_.start;
+      limit_ = range.here_.limit;
       row_ = copy_ = 0;
       rows_.clear();
-      if (!range.knows_empty_ || !range.is_empty_) read(range.place_);
+      if (!range.knows_empty_ || !range.here_.is_empty) read(range.place_);
       if (done()) told_ = limit_;
     }
 
@@ -431,7 +607,7 @@ class BasicS2CellIndex {
    private:
     // Reads the pairs over the range at a place that were not given yet.
     void read(std::size_t place) {
-      detail::check(index_->index_.handle_.with([&](::s2ix_handle* handle) {
+      detail::check(index_->index_.handle_.ask([&](::s2ix_handle* handle) {
         return rows_.fill([&](Row* to, std::size_t room, std::size_t* number) { return s2ix_contents(handle, place, told_, to, room, number); });
       }));
     }
@@ -451,6 +627,16 @@ class BasicS2CellIndex {
 
   static void check_label(Label label) {
     if (label < 0) detail::refuse(S2IX_NO_LABEL, detail::wrong_label(S2IX_NO_LABEL, {static_cast<std::uint32_t>(label)}));
+  }
+
+  // Calls a function with the labels of the pairs that share a leaf with a union, which rise.
+  template <class Union, class Use>
+  void with_labels(const Union& target, Use use) const {
+    const Index& beneath = built();
+    const detail::Given cells(target);
+    detail::Page<std::uint32_t> page;
+    const std::size_t number = beneath.put_labels(cells, page);
+    use(page.data(), number);
   }
 
   // The index with all that was added. If the library refuses the adds, the index is as it was, and they wait for the next Build().

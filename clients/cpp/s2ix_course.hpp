@@ -142,7 +142,12 @@ class Course {
 // Leads a moment on to a later step. If the steps are spoilt, the moment is as it was.
 inline void lead_on(const Book& book, Moment& moment, std::int64_t last) {
   Course course(book);
-  const std::uint32_t tip = book.each_step(moment.step, moment.tip, last, [&](const Step& step) { course.take(step); });
+  std::int64_t id = moment.step;
+  const std::uint32_t tip = book.each_step(moment.step, moment.tip, last, [&](const Step& step) {
+    id = step.id;
+    course.take(step);
+  });
+  if (id != last) book.expect_none_gone(last, tip);
   course.carry_out(moment.index);
   moment.step = last;
   moment.tip = tip;

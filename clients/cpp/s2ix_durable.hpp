@@ -34,9 +34,9 @@ namespace s2ix {
 //   zones->labels({cell});      // what an Index answers
 //   if (zones.refresh()) ..     // steps were made since
 //
-// Threads may share it: calls that read the file take turns, and what index() returned stays as it was. Only refresh() changes what is
-// held, from one whole step to another. Nothing is written to the file; in its folder SQLite makes its shared memory, zones.db-shm. A
-// forked child opens a Durable of its own.
+// Threads may share it: they ask index() side by side, and what it returned stays as it was; calls that read the file take turns. Only
+// refresh() changes what is held, from one whole step to another. Nothing is written to the file; in its folder SQLite makes its shared
+// memory, zones.db-shm. A forked child opens a Durable of its own.
 //
 // Each call that reads the file may throw FileError, and so Spoilt or LaterForm, whose words begin with the path, and std::bad_alloc; then
 // what is held is as before. If another file comes to the path, refresh() throws FileError, and what is held can still be asked.
@@ -44,7 +44,8 @@ class Durable {
  public:
   // Opens the index in a file. It waits up to `timeout` for a file that isn't there yet; and so does each call while the writer keeps it
   // from reading, which is seldom. Throws LaterForm if a later version wrote the file, Spoilt if it is none of an index, or not as it was
-  // written, and else FileError. O(n + m log m) for n pairs and m entries of the steps since the last saved state.
+  // written, and else FileError. O(n + m log m) for n pairs and m entries of the steps since the last saved state; and O(k) for all k rows
+  // that list labels and cells, if the file has at most 4,096 pages.
   explicit Durable(std::string path, std::chrono::milliseconds timeout = std::chrono::seconds(5)) : path_(std::move(path)) {
     const auto until = std::chrono::steady_clock::now() + timeout;
     const bool is_fixed = wait_for_file(until).is_fixed();
@@ -67,11 +68,9 @@ class Durable {
     return held_.step != before;
   }
 
-  // What is held: an index with nothing to undo, which stays as it is after refresh() too. Ask it for several answers of one moment. O(1).
-  [[nodiscard]] std::shared_ptr<const Index> index() const {
-    const std::lock_guard<std::mutex> reading(shown_mutex_);
-    return shown_;
-  }
+  // What is held: an index with nothing to undo, which stays as it is after refresh() too. Ask it for several answers of one moment. Any
+  // number of threads may ask side by side. O(1).
+  [[nodiscard]] std::shared_ptr<const Index> index() const { return shown_.get(); }
 
   // For one answer, as in zones->at(leaf).
   [[nodiscard]] std::shared_ptr<const Index> operator->() const { return index(); }
@@ -88,9 +87,9 @@ class Durable {
     return held_.state.limits;
   }
 
-  // The steps that are asked for, of those that are held: the oldest first, unless more is said. The seal of each is checked. By a label or
-  // a person, O(log n) for each of n steps that is returned; by a cell, for each that changed it. Throws Error with S2IX_NO_CELL if it is
-  // none.
+  // The steps that are asked for, of those that are held: the oldest first, unless more is said. The seal of each is checked, and whether it
+  // changed the label and the cell. By a label or a person, O(log n) for each of n steps that is returned, and by a label O(m) for its m
+  // entries; by a cell, for each that changed it. Throws Error with S2IX_NO_CELL if it is none.
   [[nodiscard]] std::vector<Logged> log(const Asked& asked = Asked()) const {
     const std::lock_guard<std::mutex> turn(turn_);
     return in_file([&](const detail::Book& book) { return detail::listed(book, asked, held_.step); });
@@ -113,7 +112,7 @@ class Durable {
     return in_file([&](const detail::Book& book) { return moment_after(book, step); });
   }
 
-  // The same after the last step that was made at a time or before it, by the writer's clock, which mostly rises.
+  // The same after the last step that was made at a time or before it.
   [[nodiscard]] Index as_of(std::chrono::system_clock::time_point time) const {
     const std::lock_guard<std::mutex> turn(turn_);
     return in_file([&](const detail::Book& book) {
@@ -178,10 +177,11 @@ class Durable {
     in_file([&](const detail::Book& book) {
       const detail::State state = book.state();
       if (state.version == held_.state.version) return;
+      if (index() == nullptr) book.check_lists(state);
       std::optional<detail::Moment> next = led_on(book, state);
       if (!next) next = started(book, state);
       if (next->tip != state.tip) book.spoilt("its steps are those of another state");
-      if (shown_ == nullptr || next->step != held_.step) show(std::make_shared<const Index>(std::move(next->index)));
+      if (index() == nullptr || next->step != held_.step) shown_.put(std::make_shared<const Index>(std::move(next->index)));
       held_ = {state, next->step, next->tip};
     });
   }
@@ -195,15 +195,11 @@ class Durable {
 
   // What is held, with the steps that were made since; none if they may be gone.
   std::optional<detail::Moment> led_on(const detail::Book& book, const detail::State& state) const {
-    if (shown_ == nullptr || book.first() > held_.step) return {};
-    detail::Moment moment{held_.step, held_.tip, shown_->copy()};
+    const std::shared_ptr<const Index> now = index();
+    if (now == nullptr || book.first() > held_.step) return {};
+    detail::Moment moment{held_.step, held_.tip, now->copy()};
     detail::lead_on(book, moment, state.last);
     return moment;
-  }
-
-  void show(std::shared_ptr<const Index> next) {
-    const std::lock_guard<std::mutex> reading(shown_mutex_);
-    shown_.swap(next);
   }
 
   Index moment_after(const detail::Book& book, std::int64_t step) const {
@@ -218,8 +214,7 @@ class Durable {
   mutable std::optional<detail::Place> place_;
   std::optional<detail::Connection> connection_;
   Held held_;
-  mutable std::mutex shown_mutex_;
-  std::shared_ptr<const Index> shown_;
+  detail::Shown<Index> shown_;
 };
 
 }  // namespace s2ix

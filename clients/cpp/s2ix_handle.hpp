@@ -3,13 +3,17 @@
 #define S2IX_HANDLE_HPP
 
 #include "s2ix.h"
+#include "s2ix_slots.hpp"
 
 #include <algorithm>
 #include <atomic>
+#include <chrono>
 #include <cstddef>
 #include <cstdint>
 #include <mutex>
+#include <new>
 #include <stdexcept>
+#include <thread>
 #include <utility>
 #include <vector>
 
@@ -24,84 +28,315 @@ namespace s2ix {
 
 namespace detail {
 
-// A lock of a mutex, which lasts as long as this lives. While the process has one thread, the mutex stays as it is.
+// A mutex that tells whether a thread waits for it.
+class Turns {
+ public:
+  void lock() {
+    if (mutex_.try_lock()) return;
+    waiting_++;
+    // (most turns are shorter than it takes to sleep and to be woken)
+    int yields = 0;
+    while (yields < most_yields && !mutex_.try_lock()) {
+      std::this_thread::yield();
+      yields++;
+    }
+    if (yields == most_yields) mutex_.lock();
+    waiting_--;
+  }
+  [[nodiscard]] bool try_lock() { return mutex_.try_lock(); }
+  void unlock() { mutex_.unlock(); }
+
+  [[nodiscard]] bool is_awaited() const noexcept { return waiting_.load(std::memory_order_relaxed) > 0; }
+
+ private:
+  static constexpr int most_yields = 50;
+
+  std::mutex mutex_;
+  std::atomic<std::ptrdiff_t> waiting_{0};
+};
+
+// A turn, which lasts as long as this lives. While the process has one thread, the mutex stays as it is.
 class Lock {
  public:
-  explicit Lock(std::mutex& mutex) : mutex_(S2IX_ONLY_THREAD ? nullptr : &mutex) {
-    if (mutex_ != nullptr) mutex_->lock();
+  explicit Lock(Turns& turns) : turns_(S2IX_ONLY_THREAD ? nullptr : &turns) {
+    if (turns_ != nullptr) turns_->lock();
   }
   Lock(const Lock&) = delete;
   Lock& operator=(const Lock&) = delete;
   ~Lock() {
-    if (mutex_ != nullptr) mutex_->unlock();
+    if (turns_ != nullptr) turns_->unlock();
   }
 
  private:
-  std::mutex* mutex_;
+  Turns* turns_;
 };
 
-// A handle. One call at a time takes it, from any thread. Move it only while no call runs.
+// A copy of a store, which one call at a time asks.
+class Reader {
+ public:
+  Reader() noexcept = default;
+  Reader(const Reader&) = delete;
+  Reader& operator=(const Reader&) = delete;
+  ~Reader() { s2ix_close(&copy_); }
+
+  [[nodiscard]] ::s2ix_handle* copy() noexcept { return &copy_; }
+
+  // Whether the copy shows a state of the store.
+  [[nodiscard]] bool shows(std::uint64_t state) const noexcept { return state_ == state; }
+
+  // Makes a copy of a store in a state, unless memory is refused.
+  void follow(::s2ix_handle* store, std::uint64_t state) noexcept {
+    drop();
+    if (s2ix_copy(store, &copy_) == S2IX_DONE) state_ = state;
+  }
+
+  // Frees the copy.
+  void drop() noexcept {
+    s2ix_close(&copy_);
+    state_ = none;
+  }
+
+  // How much time calls have lost by waiting for a store in a state, with this time.
+  std::chrono::nanoseconds lost(std::uint64_t state, std::chrono::nanoseconds time) noexcept {
+    if (lost_in_ != state) lost_ = {};
+    lost_in_ = state;
+    return lost_ += time;
+  }
+
+ private:
+  // (a state is even)
+  static constexpr std::uint64_t none = 1;
+
+  ::s2ix_handle copy_{};
+  std::uint64_t state_ = none;
+  std::chrono::nanoseconds lost_{};
+  std::uint64_t lost_in_ = none;
+};
+
+// A handle of a store, with copies for threads that ask it side by side. Edits take turns, and so does what is asked of the changes, since no
+// copy has these. Any other question goes to the thread's own copy if that shows what is held, and else to the store in turn. A thread gets a
+// copy once it has waited for others, or they for it, as long as that takes to make: so a thread that asks alone never has one. Move a handle
+// only while no call runs.
 class Handle {
  public:
   Handle() noexcept = default;
-  Handle(Handle&& other) noexcept : handle_(std::exchange(other.handle_, ::s2ix_handle{})) {}
+  Handle(Handle&& other) noexcept : handle_(other.taken_out()) {}
   Handle& operator=(Handle&& other) noexcept {
     if (this != &other) {
-      s2ix_close(&handle_);
-      handle_ = std::exchange(other.handle_, ::s2ix_handle{});
+      ::s2ix_handle before = std::exchange(handle_, other.taken_out());
+      s2ix_close(&before);
+      delete readers_.exchange(nullptr);
     }
     return *this;
   }
-  ~Handle() { s2ix_close(&handle_); }
+  ~Handle() {
+    delete readers_.load(std::memory_order_relaxed);
+    s2ix_close(&handle_);
+  }
 
-  // Makes a call with the handle, while no other runs.
+  // Makes a call that reads what is held.
+  template <class Call>
+  auto ask(Call call) const {
+    if (const Taken<Reader> own = own_reader(Use::asked)) return call(own->item.copy());
+    return in_turn(call);
+  }
+
+  // Makes a call with the store itself, while no other has it.
   template <class Call>
   auto with(Call call) const {
-    const Lock held(mutex_);
+    const Lock held(turns_);
     return call(&handle_);
   }
 
-  // The same for a call that may change the store: it is refused during a visit.
+  // The same for a call that may change the store, and returns a status. It is refused during a visit.
   template <class Call>
-  auto edit(Call call) {
-    const Lock held(mutex_);
+  std::uint32_t edit(Call call) {
+    const Lock held(turns_);
+    Next next(state_);
     check_unvisited();
-    return call(&handle_);
+    next.move();
+    const std::uint32_t status = call(&handle_);
+    if (status != S2IX_DONE) {
+      next.stay();
+    } else if (next.is_far()) {
+      drop_copies();
+    }
+    return status;
+  }
+
+  // Closes the store, during a visit too.
+  void close() noexcept {
+    const Lock held(turns_);
+    Next next(state_);
+    next.move();
+    s2ix_close(&handle_);
+    drop_copies();
   }
 
   // Throws during a visit.
   void check_unvisited() const {
-    if (visits_ > 0) throw std::logic_error("s2ix: an index can't change while it is visited");
+    const Slots<Reader>* readers = readers_.load(std::memory_order_acquire);
+    if (visits_ > 0 || (readers != nullptr && readers->is_visited())) {
+      throw std::logic_error("s2ix: an index can't change while it is visited");
+    }
   }
 
-  // A visit of the store by several calls, which lasts as long as this lives.
+  // A visit of the store by several calls, which lasts as long as this lives. All see one state.
   class Visit {
    public:
-    explicit Visit(const Handle& handle) noexcept : visits_(handle.visits_) { add(1); }
+    explicit Visit(const Handle& handle) noexcept : handle_(handle), own_(handle.own_reader(Use::visited)) {
+      if (!own_) add(1);
+    }
     Visit(const Visit&) = delete;
     Visit& operator=(const Visit&) = delete;
-    ~Visit() { add(-1); }
+    ~Visit() {
+      if (!own_) add(-1);
+    }
+
+    // Makes a call that reads what is held.
+    template <class Call>
+    auto ask(Call call) const {
+      // (the state moves only if the store is closed)
+      if (own_ && own_->item.shows(handle_.shown())) return call(own_->item.copy());
+      return handle_.in_turn(call);
+    }
 
    private:
     void add(std::ptrdiff_t visits) noexcept {
       if (S2IX_ONLY_THREAD) {
-        visits_.store(visits_.load(std::memory_order_relaxed) + visits, std::memory_order_relaxed);
+        handle_.visits_.store(handle_.visits_.load(std::memory_order_relaxed) + visits, std::memory_order_relaxed);
       } else {
-        visits_ += visits;
+        handle_.visits_ += visits;
       }
     }
 
-    std::atomic<std::ptrdiff_t>& visits_;
+    const Handle& handle_;
+    const Taken<Reader> own_;
   };
 
-  // The handle itself, without the lock: no other call may run meanwhile.
+  // The handle itself, without the lock: no other call may run meanwhile, and none has run before.
   ::s2ix_handle* unlocked() noexcept { return &handle_; }
 
+  // The same for a caller who may keep it and edit by it: since nothing tells when, threads get no copies from now on.
+  ::s2ix_handle* handed_out() noexcept {
+    delete readers_.exchange(nullptr);
+    has_readers_ = false;
+    return &handle_;
+  }
+
  private:
-  mutable std::mutex mutex_;
+  // The state that an edit leads to. While this lives, state_ is odd.
+  class Next {
+   public:
+    explicit Next(std::atomic<std::uint64_t>& state) noexcept : state_(state), last_(state.load(std::memory_order_relaxed)) {
+      state_.store(last_ + 1);
+    }
+    Next(const Next&) = delete;
+    Next& operator=(const Next&) = delete;
+    ~Next() { state_.store(next_); }
+
+    void move() noexcept { next_ = last_ + 2; }
+    void stay() noexcept { next_ = last_; }
+
+    // Whether copies of earlier states, which waste memory, are freed now: at one state in 64.
+    [[nodiscard]] bool is_far() const noexcept { return next_ % 128 == 0; }
+
+   private:
+    std::atomic<std::uint64_t>& state_;
+    const std::uint64_t last_;
+    std::uint64_t next_ = last_;
+  };
+
+  // The state that is held: while an edit runs, the one before it.
+  [[nodiscard]] std::uint64_t shown() const noexcept { return state_.load() & ~std::uint64_t{1}; }
+
+  // The thread's reader, if its copy shows what is held.
+  Taken<Reader> own_reader(Use use) const noexcept {
+    Slots<Reader>* readers = S2IX_ONLY_THREAD ? nullptr : readers_.load(std::memory_order_acquire);
+    if (readers == nullptr) return {};
+    Taken<Reader> own = readers->take(use);
+    if (!own) return {};
+    const std::uint64_t state = state_.load();
+    if (own->item.shows(state)) return own;
+    if (!own->item.shows(state & ~std::uint64_t{1})) {
+      own->item.drop();
+    } else if (use != Use::visited) {
+      return own;
+    }
+    // (an edit that runs may not have seen the visit begin; an edit that begins later sees it)
+    return {};
+  }
+
+  // Makes a call that reads what is held with the store itself, while no other has it.
+  template <class Call>
+  auto in_turn(Call call) const {
+    if (S2IX_ONLY_THREAD) return call(&handle_);
+    const bool is_free = turns_.try_lock();
+    if (!is_free || turns_.is_awaited()) share(is_free);
+    const std::lock_guard<Turns> held(turns_, std::adopt_lock);
+    return call(&handle_);
+  }
+
+  // Waits for the lock if the thread doesn't have it yet. Threads have lost time, so there may be a copy for what this one asks next.
+  void share(bool is_locked) const {
+    const std::uint64_t state = state_.load();
+    std::chrono::nanoseconds lost = time_of_question;
+    if (!is_locked) {
+      const auto start = std::chrono::steady_clock::now();
+      turns_.lock();
+      lost = std::max(lost, std::chrono::nanoseconds(std::chrono::steady_clock::now() - start));
+    }
+    // (after an edit there may be more, and then few questions would go to a copy)
+    if (!has_readers_ || state != state_.load(std::memory_order_relaxed)) return;
+    Slots<Reader>* readers = readers_or_none();
+    if (readers == nullptr) return;
+    const Taken<Reader> own = readers->take(Use::asked);
+    if (own && !own->item.shows(state) && own->item.lost(state, lost) >= time_of_copy()) own->item.follow(&handle_, state);
+  }
+
+  // The readers, which are made if there are none, unless memory is refused.
+  Slots<Reader>* readers_or_none() const noexcept {
+    if (readers_.load(std::memory_order_relaxed) == nullptr) {
+      try {
+        readers_.store(new Slots<Reader>, std::memory_order_release);
+      } catch (const std::bad_alloc&) {
+      }
+    }
+    return readers_.load(std::memory_order_relaxed);
+  }
+
+  // What a question that others wait for takes, roughly, and a copy: some 40 ns for each of its parts, of 300 pairs or so.
+  static constexpr std::chrono::nanoseconds time_of_question{1000};
+  std::chrono::nanoseconds time_of_copy() const noexcept {
+    std::size_t pairs = 0;
+    s2ix_len(&handle_, &pairs);
+    return std::chrono::nanoseconds(pairs / 8);
+  }
+
+  // Frees the copies of earlier states, but those that are asked.
+  void drop_copies() noexcept {
+    Slots<Reader>* readers = readers_.load(std::memory_order_relaxed);
+    if (readers != nullptr) readers->with_free([](Reader& reader) { reader.drop(); });
+  }
+
+  // The handle, which leaves this one closed.
+  ::s2ix_handle taken_out() noexcept {
+    delete readers_.exchange(nullptr);
+    return std::exchange(handle_, ::s2ix_handle{});
+  }
+
+  // Each edit moves the state by 2 before it returns.
+  std::atomic<std::uint64_t> state_{0};
+  mutable std::atomic<Slots<Reader>*> readers_{nullptr};
+  bool has_readers_ = true;
+  // (what each question reads lies apart from what some write)
+  [[maybe_unused]] char written_is_apart_[apart] = {};
+  mutable Turns turns_;
+  // The visits that ask the store itself.
   mutable std::atomic<std::ptrdiff_t> visits_{0};
   // (a query changes no store, but it takes the store out of the handle and puts it back)
   mutable ::s2ix_handle handle_{};
+  [[maybe_unused]] char next_is_apart_[apart] = {};
 };
 
 // Room in which a query puts what it finds. A thread keeps it for its next query: the library wants initialised room, and so it is initialised

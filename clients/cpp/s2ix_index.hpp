@@ -40,14 +40,17 @@ class BasicS2CellIndex;
 // A store of pairs of cells and labels. It can be moved, and copied only by copy(); once moved from or closed, it refuses each call with
 // S2IX_CLOSED.
 //
-// Threads may share an Index, and a const Index& as any const object of C++: each call takes the lock of the Index, so it waits while another
-// runs. Only handle() takes no lock. No call may run while the Index is moved or destroyed. Calls on one Index never run side by side: to
-// read side by side, give each thread a copy().
+// Threads may share an Index, and a const Index& as any const object of C++. Edits take turns. Any number of threads ask side by side, while
+// edits go on: each answer is that of one state: that after the last edit that had returned when the thread asked, or a later one. For this a
+// thread that has waited for others gets a copy of what is held, which shares memory with it. Each edit makes the copy old, and the thread gets
+// a new one once it has waited again. An index has a copy for each such thread, but at most 16 or, on more than 8 processors, fewer than four
+// for each processor. A thread that asks alone has none. What is asked of the changes takes turns with edits: done_count, undone_count, change,
+// journal, journal_from and faces_rebuilt. Only handle() takes no lock. No call may run while the Index is moved or destroyed.
 class Index {
  public:
   // An index of no pairs. S2IX_NO_LIMITS.
   explicit Index(Limits limits = Limits()) {
-    detail::check(handle_.with([&](::s2ix_handle* handle) { return s2ix_open(handle, limits.pairs, limits.copies, limits.changes); }));
+    detail::check(s2ix_open(handle_.unlocked(), limits.pairs, limits.copies, limits.changes));
   }
 
   // The index that starts from a dump's pairs. S2IX_NO_LIMITS; S2IX_NO_DUMP, with the first line that has a fault. O(n) for n bytes.
@@ -55,7 +58,7 @@ class Index {
     Index index{Closed()};
     std::size_t line = 0;
     const std::uint32_t status =
-        s2ix_load(index.handle(), detail::bytes(dump), dump.size(), limits.pairs, limits.copies, limits.changes, &line);
+        s2ix_load(index.handle_.unlocked(), detail::bytes(dump), dump.size(), limits.pairs, limits.copies, limits.changes, &line);
     detail::check(status, [&](std::uint32_t) {
       Where where;
       where.line = line;
@@ -92,21 +95,20 @@ class Index {
   // different threads. O(p) for the p parts of some hundred pairs that the store is kept in. S2IX_CLOSED.
   [[nodiscard]] Index copy() const {
     Index index{Closed()};
-    detail::check(handle_.with([&](::s2ix_handle* handle) { return s2ix_copy(handle, index.handle()); }));
+    detail::check(handle_.ask([&](::s2ix_handle* handle) { return s2ix_copy(handle, index.handle_.unlocked()); }));
     return index;
   }
 
   // Closes the index and frees all that its store had; a closed one stays closed. O(n).
-  void close() noexcept {
-    handle_.with([](::s2ix_handle* handle) { s2ix_close(handle); });
-  }
+  void close() noexcept { handle_.close(); }
 
   [[nodiscard]] bool is_open() const noexcept {
-    return handle_.with([](::s2ix_handle* handle) { return handle->is_open; });
+    return handle_.ask([](::s2ix_handle* handle) { return handle->is_open; });
   }
 
-  // The handle, to pass to calls of s2ix.h. These don't take the lock: no other call on the index may run meanwhile.
-  [[nodiscard]] ::s2ix_handle* handle() noexcept { return handle_.unlocked(); }
+  // The handle, to pass to calls of s2ix.h. Neither this nor those take the lock: no other call on the index may run meanwhile. Nothing
+  // tells the index what they change, so from now on its own calls take turns.
+  [[nodiscard]] ::s2ix_handle* handle() noexcept { return handle_.handed_out(); }
 
   // Edits: each is one change, which can be undone, and returns how many pairs changed their counts. Besides the statuses named, each may
   // throw with S2IX_CLOSED, S2IX_JOURNAL_FULL, S2IX_NO_CHANGE, S2IX_TOO_MANY_COPIES or S2IX_TOO_MANY_PAIRS. A store is kept in
@@ -387,7 +389,8 @@ class Index {
     return found;
   }
 
-  // The region of a label: the normal union of its cells, rising. O(n + m log m) for m pairs of the label. S2IX_CLOSED, S2IX_NO_LABEL.
+  // The region of a label: the normal union of its cells, rising. It takes what of_label does, and O(m log m) for m pairs. S2IX_CLOSED,
+  // S2IX_NO_LABEL.
   void region(std::uint32_t label, std::vector<std::uint64_t>& cells) const {
     list_of(label, cells, s2ix_region);
   }
@@ -398,7 +401,8 @@ class Index {
     return cells;
   }
 
-  // The pairs of a label, by rising cell. O(n) for all n pairs that are held. S2IX_CLOSED, S2IX_NO_LABEL.
+  // The pairs of a label, by rising cell. O(p + k) for p parts of a few hundred pairs and the k pairs of those that may have the label, mostly
+  // those that have it, and at worst all. S2IX_CLOSED, S2IX_NO_LABEL.
   void of_label(std::uint32_t label, std::vector<Row>& rows) const {
     list_of(label, rows, s2ix_of_label);
   }
@@ -437,15 +441,16 @@ class Index {
   [[nodiscard]] std::uint64_t copies() const { return answer<std::uint64_t>(s2ix_copies); }
 
   // How many changes can be undone, and how many redone. O(1). S2IX_CLOSED.
-  [[nodiscard]] std::size_t done_count() const { return number(s2ix_done_count); }
-  [[nodiscard]] std::size_t undone_count() const { return number(s2ix_undone_count); }
+  [[nodiscard]] std::size_t done_count() const { return number<Of::changes>(s2ix_done_count); }
+  [[nodiscard]] std::size_t undone_count() const { return number<Of::changes>(s2ix_undone_count); }
 
   // The entries of the change with a number, counted from 1 among those that can be undone: by rising cell, then label. O(k) for k entries.
   // S2IX_CLOSED, S2IX_NO_SUCH_CHANGE.
   [[nodiscard]] std::vector<Entry> change(std::uint32_t number) const {
     std::vector<Entry> entries;
-    list(entries,
-         [&](::s2ix_handle* handle, Entry* to, std::size_t room, std::size_t* many) { return s2ix_change(handle, number, to, room, many); });
+    list<Of::changes>(entries, [&](::s2ix_handle* handle, Entry* to, std::size_t room, std::size_t* many) {
+      return s2ix_change(handle, number, to, room, many);
+    });
     return entries;
   }
 
@@ -456,13 +461,13 @@ class Index {
     Index after = other.copy();
     std::vector<Entry> entries;
     list(entries, [&](::s2ix_handle* handle, Entry* to, std::size_t room, std::size_t* number) {
-      return s2ix_difference(handle, after.handle(), to, room, number);
+      return s2ix_difference(handle, after.handle_.unlocked(), to, room, number);
     });
     return entries;
   }
 
   // On how many faces, 0 to 6, the last accepted edit, undo, redo or apply changed pairs. O(1). S2IX_CLOSED.
-  [[nodiscard]] std::size_t faces_rebuilt() const { return number(s2ix_faces_rebuilt); }
+  [[nodiscard]] std::size_t faces_rebuilt() const { return number<Of::changes>(s2ix_faces_rebuilt); }
 
   // How many ranges of leaves there are over which the same pairs lie: at least 1. O(1). S2IX_CLOSED.
   [[nodiscard]] std::size_t range_count() const { return number(s2ix_range_count); }
@@ -518,13 +523,13 @@ class Index {
   [[nodiscard]] std::string dump() const { return text(s2ix_dump, s2ix_len, 32); }
 
   // The journal of the changes that can be undone, the oldest first (FORMATS.md). O(n) for n entries. S2IX_CLOSED.
-  [[nodiscard]] std::string journal() const { return text(s2ix_journal, s2ix_done_count, 64); }
+  [[nodiscard]] std::string journal() const { return text<Of::changes>(s2ix_journal, s2ix_done_count, 64); }
 
   // The journal of the changes that can be undone from the one with a number on, as in revert: what an index needs for apply that has done
   // those before it. If the number is one more than that of the last, it is the journal of no changes. O(n) for n entries. S2IX_CLOSED,
   // S2IX_NO_SUCH_CHANGE.
   [[nodiscard]] std::string journal_from(std::uint32_t change) const {
-    return text(
+    return text<Of::changes>(
         [&](::s2ix_handle* handle, std::uint8_t* bytes, std::size_t room, std::size_t* number) {
           return s2ix_journal_from(handle, change, bytes, room, number);
         },
@@ -566,7 +571,7 @@ class Index {
   static Index led(decltype(s2ix_replay)* call, std::string_view dump, std::string_view journal, Limits limits) {
     Index index{Closed()};
     std::size_t place = 0, entry = 0;
-    const std::uint32_t status = call(index.handle(), detail::bytes(dump), dump.size(), detail::bytes(journal), journal.size(), limits.pairs,
+    const std::uint32_t status = call(index.handle_.unlocked(), detail::bytes(dump), dump.size(), detail::bytes(journal), journal.size(), limits.pairs,
                                       limits.copies, limits.changes, &place, &entry);
     detail::check(status, [&](std::uint32_t why) { return where(why, place, entry); });
     return index;
@@ -625,17 +630,29 @@ class Index {
     });
   }
 
+  // What a call reads: what is held, or the changes too, which only the store itself has.
+  enum class Of { held, changes };
+
+  template <Of of = Of::held, class Call>
+  auto ask(Call call) const {
+    if constexpr (of == Of::held) {
+      return handle_.ask(call);
+    } else {
+      return handle_.with(call);
+    }
+  }
+
   // What a call writes to the pointer it is given. `wrong` says of which number a refusal speaks.
-  template <class Answer, class Call, class Wrong = detail::NoneWrong>
+  template <class Answer, Of of = Of::held, class Call, class Wrong = detail::NoneWrong>
   Answer answer(Call call, Wrong wrong = Wrong()) const {
     Answer given{};
-    detail::check(handle_.with([&](::s2ix_handle* handle) { return call(handle, &given); }), wrong);
+    detail::check(ask<of>([&](::s2ix_handle* handle) { return call(handle, &given); }), wrong);
     return given;
   }
 
-  template <class Call, class Wrong = detail::NoneWrong>
+  template <Of of = Of::held, class Call, class Wrong = detail::NoneWrong>
   std::size_t number(Call call, Wrong wrong = Wrong()) const {
-    return answer<std::size_t>(call, wrong);
+    return answer<std::size_t, of>(call, wrong);
   }
 
   // The number that an edit writes.
@@ -658,9 +675,9 @@ class Index {
   }
 
   // Puts the list of a call in place of what `items` held. The first call has at least that much room.
-  template <class Items, class Call, class Wrong = detail::NoneWrong>
+  template <Of of = Of::held, class Items, class Call, class Wrong = detail::NoneWrong>
   void list(Items& items, Call call, Wrong wrong = Wrong(), std::size_t least_room = 0) const {
-    const std::uint32_t status = handle_.with([&](::s2ix_handle* handle) {
+    const std::uint32_t status = ask<of>([&](::s2ix_handle* handle) {
       return detail::fill(
           items, [&](auto* to, std::size_t room, std::size_t* number) { return call(handle, to, room, number); }, least_room);
     });
@@ -670,7 +687,7 @@ class Index {
   // The same for a label's items.
   template <class Items, class Call>
   void list_of(std::uint32_t label, Items& items, Call call) const {
-    const std::uint32_t status = handle_.with([&](::s2ix_handle* handle) { return fill_of(handle, label, items, call); });
+    const std::uint32_t status = handle_.ask([&](::s2ix_handle* handle) { return fill_of(handle, label, items, call); });
     detail::check(status, [&](std::uint32_t why) { return detail::wrong_label(why, {label}); });
   }
 
@@ -690,22 +707,22 @@ class Index {
   void over_each(Call call, const Cells& leaves, std::vector<std::size_t>& ends, std::vector<Item>& items) const {
     std::size_t place = 0;
     const std::uint32_t status =
-        handle_.with([&](::s2ix_handle* handle) { return detail::fill_over<Item>(handle, call, leaves, ends, items, place); });
+        handle_.ask([&](::s2ix_handle* handle) { return detail::fill_over<Item>(handle, call, leaves, ends, items, place); });
     detail::check(status, [&](std::uint32_t why) { return detail::wrong_at(why, leaves, place); });
   }
   template <class Item, class Call>
   void met_by_each(Call call, const Targets& targets, std::vector<std::size_t>& ends, std::vector<Item>& items) const {
     std::size_t place = 0;
     const std::uint32_t status =
-        handle_.with([&](::s2ix_handle* handle) { return detail::fill_met<Item>(handle, call, targets, ends, items, place); });
+        handle_.ask([&](::s2ix_handle* handle) { return detail::fill_met<Item>(handle, call, targets, ends, items, place); });
     detail::check(status, [&](std::uint32_t why) { return detail::wrong_target(why, targets, place); });
   }
 
-  // Puts a page of what meet gives, from a place on, into some room, and returns how many pairs that is: less than `room` only if the list
-  // ends there.
-  std::size_t put_met(const Cells& cells, std::size_t from, Row* rows, std::size_t room) const {
+  // Puts a page of what meet gives in a visit, from a place on, into some room, and returns how many pairs that is: less than `room` only if
+  // the list ends there.
+  static std::size_t put_met(const detail::Handle::Visit& visit, const Cells& cells, std::size_t from, Row* rows, std::size_t room) {
     std::size_t number = 0;
-    const std::uint32_t status = handle_.with([&](::s2ix_handle* handle) {
+    const std::uint32_t status = visit.ask([&](::s2ix_handle* handle) {
       // (a leaf has a quicker call, which puts the same pairs in the same order)
       if (from == 0 && cells.size() == 1 && s2ix_cell_is_leaf(*cells.data())) {
         const std::uint32_t found = s2ix_at(handle, *cells.data(), rows, room, &number);
@@ -720,7 +737,7 @@ class Index {
   // Puts what labels gives into a page, and returns how many labels that is.
   std::size_t put_labels(const Cells& cells, detail::Page<std::uint32_t>& page) const {
     std::size_t number = 0;
-    const std::uint32_t status = handle_.with([&](::s2ix_handle* handle) {
+    const std::uint32_t status = handle_.ask([&](::s2ix_handle* handle) {
       const auto call = [&] { return s2ix_labels(handle, cells.data(), cells.size(), page.data(), page.size(), &number); };
       const std::uint32_t found = call();
       if (found != S2IX_NO_ROOM) return found;
@@ -735,7 +752,7 @@ class Index {
   template <class Call, class Wrong = detail::NoneWrong>
   std::vector<Row> page(std::size_t from, std::size_t most, Call call, Wrong wrong = Wrong()) const {
     std::vector<Row> rows;
-    const std::uint32_t status = handle_.with([&](::s2ix_handle* handle) {
+    const std::uint32_t status = handle_.ask([&](::s2ix_handle* handle) {
       std::size_t number = 0;
       s2ix_len(handle, &number);
       const std::size_t room = std::min(most, number - std::min(from, number));
@@ -749,10 +766,10 @@ class Index {
   }
 
   // The text of a call. The first call has room for `bytes_each` bytes for each item that `counter` counts.
-  template <class Call, class Counter>
+  template <Of of = Of::held, class Call, class Counter>
   std::string text(Call call, Counter counter, std::size_t bytes_each) const {
     std::string text;
-    const std::uint32_t status = handle_.with([&](::s2ix_handle* handle) {
+    const std::uint32_t status = ask<of>([&](::s2ix_handle* handle) {
       std::size_t many = 0;
       counter(handle, &many);
       return detail::fill(

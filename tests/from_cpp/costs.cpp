@@ -74,6 +74,7 @@ COUNTED(s2ix_contents, (Handle handle, Size place, std::uint64_t from, Rows rows
 COUNTED(s2ix_find, (Handle handle, std::uint64_t leaf, Number place, std::uint64_t* start, std::uint64_t* limit), (handle, leaf, place, start, limit))
 COUNTED(s2ix_range, (Handle handle, Size place, std::uint64_t* start, std::uint64_t* limit, bool* is_empty),
         (handle, place, start, limit, is_empty))
+COUNTED(s2ix_ranges, (Handle handle, Size from, ::s2ix_leaf_range* ranges, Size room, Number number), (handle, from, ranges, room, number))
 COUNTED(s2ix_dump, (Handle handle, std::uint8_t* text, Size room, Number number), (handle, text, room, number))
 COUNTED(s2ix_export, (Handle handle, std::uint8_t* text, Size room, Number number), (handle, text, room, number))
 COUNTED(s2ix_journal, (Handle handle, std::uint8_t* text, Size room, Number number), (handle, text, room, number))
@@ -267,6 +268,12 @@ void AsksOnceAsInS2() {
     EXPECT(!contents.done());
   });
   EXPECT(cost.asked == 2 && cost.taken == 0);
+  // (each leaf is a range, and pages of these grow to 512)
+  cost = CostOf([&] {
+    s2ix::S2CellIndex::RangeIterator range(&index);
+    for (range.Begin(); !range.done(); range.Next()) visited++;
+  });
+  EXPECT(cost.asked <= static_cast<int>(kMany) / 512 + 12 && cost.taken <= 2048 * sizeof(::s2ix_leaf_range));
   cost = CostOf([&] {
     for (s2ix::S2CellIndex::CellIterator cells(&index); !cells.done(); cells.Next()) visited++;
   });

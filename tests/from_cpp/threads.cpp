@@ -6,6 +6,7 @@
 #include <atomic>
 #include <functional>
 #include <iostream>
+#include <memory>
 #include <string>
 #include <thread>
 
@@ -150,9 +151,42 @@ void QueriedBeforeAndAfter() {
   EXPECT(visited == kLabels && index.index().drop_label(1) == 1 && index.num_cells() == kLabels - 1);
 }
 
+// Threads see what was put last, and nothing older than they have seen. What was put before is freed when nobody has it.
+void Shown() {
+  s2ix::detail::Shown<int> shown;
+  EXPECT(shown.get() == nullptr);
+  std::weak_ptr<const int> first;
+  std::atomic<int> last{0};
+  std::thread writer([&] {
+    for (int number = 1; number <= 1000; number++) {
+      auto next = std::make_shared<const int>(number);
+      if (number == 1) first = next;
+      shown.put(std::move(next));
+      last = number;
+      std::this_thread::yield();
+    }
+  });
+  AtOnce([&] {
+    int wrong = 0;
+    for (int seen = 0; seen < 1000;) {
+      const int before = last;
+      const std::shared_ptr<const int> now = shown.get();
+      wrong += before > 0 && (now == nullptr || *now < before || *now < seen);
+      if (now != nullptr) seen = *now;
+    }
+    EXPECT(wrong == 0);
+  });
+  writer.join();
+  EXPECT(*shown.get() == 1000 && first.expired());
+  const std::shared_ptr<const int> kept = shown.get();
+  shown.put(nullptr);
+  EXPECT(*kept == 1000 && shown.get() == nullptr);
+}
+
 }  // namespace
 
 int main() {
+  Shown();
   QueriedBeforeAndAfter();
   Queried();
   QueriedWhileEdited();

@@ -116,6 +116,65 @@ void ManyLabels() {
   }
 }
 
+// The set of labels that is returned: it is read and changed as S2's is, it rises, and other sets are made of it.
+void SetOfLabels() {
+  const Index index = Zones(3);
+  const auto labels = index.GetIntersectingLabels(Target{kFace});
+  EXPECT(std::vector<int>(labels.begin(), labels.end()) == (std::vector<int>{0, 1, 2}));
+  EXPECT(labels.size() == 3 && !labels.empty() && labels.contains(2) && !labels.contains(3) && !labels.contains(-1));
+  EXPECT(labels.count(0) == 1 && labels.count(3) == 0 && *labels.find(1) == 1 && labels.find(3) == labels.end());
+  const std::unordered_set<int> hashed = index.GetIntersectingLabels(Target{kFace});
+  const std::set<int> ordered = labels;
+  const std::unordered_set<int> made(labels);
+  EXPECT(made == hashed);
+  EXPECT((hashed == labels && labels == ordered && labels == labels && labels == Index::LabelSet{2, 0, 1, 0}));
+  EXPECT((!(labels == std::set<int>{0, 1}) && !(labels == std::set<int>{0, 1, 3}) && labels != Index::LabelSet{}));
+
+  EXPECT((labels != std::set<int>{0, 1} && std::unordered_set<int>{3} != labels && !(labels != ordered) && !(hashed != labels)));
+
+  Index::LabelSet changed = labels;
+  EXPECT(!changed.insert(1).second && *changed.insert(-4).first == -4 && changed.insert(9).second);
+  EXPECT((changed.erase(0) == 1 && changed.erase(0) == 0 && changed == Index::LabelSet{-4, 1, 2, 9} && labels.size() == 3));
+  changed.clear();
+  EXPECT(changed.empty() && changed == Index::LabelSet());
+}
+
+// (what copies a page may throw)
+static_assert(!std::is_nothrow_copy_assignable_v<Index::CellIterator> && !std::is_nothrow_copy_assignable_v<Index::RangeIterator>);
+static_assert(std::is_nothrow_move_assignable_v<Index::CellIterator> && std::is_nothrow_move_assignable_v<Index::RangeIterator>);
+
+// Iterators are copied with the page that they read, and go on apart.
+void CopiedIterators() {
+  const Index index = Zones(3000);
+  Index::CellIterator cells(&index);
+  for (int k = 0; k < 1500; k++) cells.Next();
+  Index::CellIterator copied = cells;
+  const auto rest = [](Index::CellIterator from) {
+    std::vector<std::pair<Cell, int>> given;
+    for (; !from.done(); from.Next()) given.emplace_back(from.cell_id(), from.label());
+    return given;
+  };
+  const auto given = rest(cells);
+  EXPECT(given.size() + 1500 == static_cast<std::size_t>(index.num_cells()) && rest(copied) == given);
+  for (int k = 0; k < 700; k++) cells.Next();
+  EXPECT(rest(copied) == given && rest(cells).size() + 700 == given.size());
+  copied = cells;
+  EXPECT(rest(copied) == rest(cells));
+
+  Index::RangeIterator range(&index);
+  range.Begin();
+  for (int k = 0; k < 3; k++) range.Next();
+  Index::RangeIterator other = range;
+  const auto starts = [](Index::RangeIterator from) {
+    std::vector<Cell> found;
+    for (; !from.done(); from.Next()) found.push_back(from.start_id());
+    return found;
+  };
+  const auto found = starts(range);
+  range.Next();
+  EXPECT(starts(other) == found && starts(range).size() + 1 == found.size());
+}
+
 // A visit in a visit in a visit, each of several pages: none sees the rows of another.
 void VisitsInVisits() {
   const Index index = Zones(1500);
@@ -231,6 +290,8 @@ int main() {
   LeavesAsTargets();
   TargetsOfIds();
   ManyLabels();
+  SetOfLabels();
+  CopiedIterators();
   VisitsInVisits();
   VisitorsThatThrow();
   CellsAsTheyWere();
