@@ -3,33 +3,38 @@ from __future__ import annotations
 
 import sqlite3
 import zlib
-from typing import Any, Iterable, Iterator, NamedTuple, Optional
+from itertools import chain, islice
+from typing import Any, Iterator, NamedTuple, Optional
 
-from s2ix.form import LAST, SEALED, Saved, Spoilt, State, Step, ids_in, seal_of, touched
-from s2ix.given import MOST_U63
+from s2ix.form import LAST, LISTED_SUM, Saved, Spoilt, State, Step, ids_in, seal_of, touched
+from s2ix.given import MOST_LABEL, MOST_U63
 from s2ix.refusals import NoSuchChange
 
 _COLUMNS = "id, time, who, note, kind, of_step, change, seal"
-# How many steps are checked by one CRC-32, and how many unwanted ones are read rather than asking once more.
-_BLOCK, _GAP = 500, 50
-_BLOCK_SEALED = (
-    f"SELECT count(*), group_concat({SEALED}, ''), max(id) FROM (SELECT {_COLUMNS} FROM s2ix_step WHERE id BETWEEN ? AND ? ORDER BY id)"
-)
+# How many unwanted steps are read rather than asking once more.
+_GAP = 50
 # Whether the change of a step is undone: its last undo or redo says so.
 _IS_UNDONE = (
     "(SELECT kind = 'undo' FROM s2ix_step AS move WHERE move.of_step = step.id AND move.kind IN ('undo', 'redo') "
     "ORDER BY move.id DESC LIMIT 1)"
 )
 _SEAL_BEFORE = "(SELECT seal FROM s2ix_step AS other WHERE other.id < step.id ORDER BY other.id DESC LIMIT 1)"
+# Whether a row lists what is no label or cell, or no integer: its sum may be right, since SQL takes 'x' for 0 there, 1.5 for 1, and -1 for 1.
+_MISLISTED = (
+    "EXISTS (SELECT 1 FROM s2ix_label WHERE label < 0) OR EXISTS (SELECT 1 FROM s2ix_label WHERE label > ?1) "
+    "OR EXISTS (SELECT 1 FROM s2ix_label WHERE label <> label | 0 OR step <> step | 0) "
+    "OR EXISTS (SELECT 1 FROM s2ix_cell WHERE cell <> cell | 0 OR step <> step | 0)"
+)
 
 
 class Start(NamedTuple):
-    """A saved state, with its steps whose changes can be undone and redone, and all these changes."""
+    """A saved state, with its steps whose changes can be undone and redone, and these changes, one after the other."""
 
     saved: Saved
     standing: list[int]
     undone: list[int]
-    changes: dict[int, str]
+    done: list[str]
+    redoable: list[str]
 
 
 class Asked(NamedTuple):
@@ -43,6 +48,15 @@ class Asked(NamedTuple):
     limit: int
     is_newest_first: bool
     most: int
+
+
+class _Part(NamedTuple):
+    """Where steps are looked for: tables, the column of their ids, and what holds there, with values for it."""
+
+    tables: str
+    id: str
+    wheres: list[str]
+    values: list[object]
 
 
 class Book:
@@ -77,15 +91,27 @@ class Book:
         oldest = self.asked("SELECT min(id) FROM s2ix_step")
         return (oldest is None or oldest > self.first()) and self._seal_before(MOST_U63) == state.tip
 
+    def listed_sum(self, after: int = 0) -> int:
+        """The sum of the numbers of the rows that list what steps after one changed. O(k) for all k such rows."""
+        return int(self.asked(f"SELECT {LISTED_SUM}", after))
+
+    def is_listed(self, state: State) -> bool:
+        """Whether the rows that list labels and cells are those of a state, as far as their sum and their values tell. O(k) for k rows."""
+        return not self.asked(f"SELECT {_MISLISTED}", MOST_LABEL) and self.listed_sum() == state.listed_sum
+
+    def last_time(self) -> int:
+        """When the last step in the log was made; 0 if there is none. Raises Spoilt."""
+        number = self.asked("SELECT max(id) FROM s2ix_step")
+        return 0 if number is None else self.step(number).time
+
     def saved(self, most: int) -> Saved:
         """The last saved state that is at most that after a step. Raises Spoilt, and NoSuchChange if there is none."""
         row = self._run("SELECT * FROM s2ix_saved WHERE step <= ? ORDER BY step DESC LIMIT 1", (most,)).fetchone()
         if row is None:
             raise NoSuchChange(f"the log begins after step {self.first()}")
         try:
-            step, tip, *texts, seal = row
-            standing, undone, dump = (text.decode() for text in texts)
-            saved = Saved(step, tip, standing, undone, dump, seal)
+            step, tip, standing, undone, changes, dump, seal = row
+            saved = Saved(step, tip, standing.decode(), undone.decode(), changes, dump.decode(), seal)
         except (AttributeError, ValueError) as wrong:
             raise Spoilt(0, "a saved state is no text") from wrong
         if saved.sealed() != saved:
@@ -101,23 +127,37 @@ class Book:
             raise Spoilt(0, wrong) from wrong
         if saved.seal != state.saved:
             raise Spoilt(0, "its saved state is that of another state")
-        return Start(saved, standing, undone, self._changes({*standing, *undone}))
+        ids = sorted({*standing, *undone})
+        changes = self._changes(ids)
+        # (to look at the seals of all these steps takes several times as long)
+        try:
+            done, redoable = ([changes[each] for each in some] for some in (standing, undone))
+            is_same = zlib.crc32(b"".join(chain(done, redoable))) == saved.changes
+        except (KeyError, TypeError):
+            is_same = False
+        if not is_same:
+            self._expect_changes(ids)
+            raise Spoilt(0, "its changes are those of another state")
+        return Start(saved, standing, undone, *([change.decode() for change in some] for some in (done, redoable)))
 
-    def _changes(self, ids: set[int]) -> dict[int, str]:
-        """The changes of some steps."""
-        changes: dict[int, str] = {}
-        for first, last in _spans(sorted(ids)):
-            rows = self._run("SELECT id, change FROM s2ix_step WHERE id BETWEEN ? AND ? ORDER BY id", (first, last)).fetchall()
-            try:
-                changes.update((number, change.decode()) for number, change in rows if number in ids)
-            except (AttributeError, ValueError):
-                # (it is spoilt, or none; the seals say which)
-                pass
-            self._check(first, last, self._seal_before(first))
-        missing = ids - changes.keys()
+    def _changes(self, ids: list[int]) -> dict[int, Any]:
+        """What the rows of some steps have for a change, with some of others."""
+        changes: dict[int, Any] = {}
+        for span in _spans(ids):
+            changes.update(self._run("SELECT id, change FROM s2ix_step WHERE id BETWEEN ? AND ?", span))
+        return changes
+
+    def _expect_changes(self, ids: list[int]) -> None:
+        """Raises Spoilt for the first of some steps that is not as it was written, or is gone, or has no change."""
+        found = set()
+        for first, last in _spans(ids):
+            tip = self._seal_before(first)
+            for row in self._run(f"SELECT {_COLUMNS} FROM s2ix_step WHERE id BETWEEN ? AND ? ORDER BY id", (first, last)):
+                tip = _seal_after(row, tip)
+                found.update([row[0]] if row[6] is not None else [])
+        missing = {*ids} - found
         if missing:
             raise Spoilt(min(missing), "it is gone, or has no change")
-        return changes
 
     # Steps.
 
@@ -130,12 +170,25 @@ class Book:
             tip = steps[-1].seal
         return steps
 
+    def expect_whole(self, last: int, tip: int) -> None:
+        """Raises Spoilt if a step is gone before the first one above `last`, which goes on from the seal `tip`. (Ids may have gaps, in a
+        file that was of form 1, but each seal goes on from that of the step before.)"""
+        row = self._run(f"SELECT {_COLUMNS} FROM s2ix_step WHERE id > ? ORDER BY id LIMIT 1", (last,)).fetchone()
+        if row is not None:
+            _seal_after(row, tip)
+        elif tip != self.state().tip:
+            raise Spoilt(0, "its last steps are gone")
+
     def step(self, number: int) -> Step:
         """The step with an id. Raises Spoilt, and NoSuchChange if the log hasn't got it."""
         row = self._run(f"SELECT {_COLUMNS} FROM s2ix_step WHERE id = ?", (number,)).fetchone()
-        if row is None or number <= self.first():
+        if number <= self.first():
             raise NoSuchChange(f"the log has no step {number}")
-        return _step(row, self._seal_before(number))
+        before = self._seal_before(number)
+        if row is None:
+            self.expect_whole(number, before)
+            raise NoSuchChange(f"the log has no step {number}")
+        return _step(row, before)
 
     def tip_at(self, number: int) -> int:
         """The seal of a step, or of the last one before it."""
@@ -145,91 +198,119 @@ class Book:
         """The seal that a step goes on from."""
         found = self._run("SELECT id, seal FROM s2ix_step WHERE id < ? ORDER BY id DESC LIMIT 1", (number,)).fetchone()
         first = self.first()
-        if found is not None and found[0] > first:
-            return int(found[1] or 0)
-        return self.saved(first).tip
-
-    def _check(self, first: int, last: int, tip: int) -> None:
-        """Raises Spoilt unless the seals of some steps, of which there are the first and the last, follow from one."""
-        for start in range(first, last + 1, _BLOCK):
-            tip = self._checked(start, min(start + _BLOCK - 1, last), tip)
-
-    def _checked(self, first: int, last: int, tip: int) -> int:
-        """The seal of the last of some steps. Raises Spoilt unless theirs follow from one."""
-        try:
-            many, text, newest = self._run(_BLOCK_SEALED, (first, last)).fetchone()
-        except sqlite3.DataError:
-            # (SQLite puts no text together that has more than 1,000,000,000 bytes)
-            if first == last:
-                raise
-            middle = (first + last) // 2
-            return self._checked(middle + 1, last, self._checked(first, middle, tip))
-        if not many:
-            return tip
-        seal = int(self.asked("SELECT seal FROM s2ix_step WHERE id = ?", newest))
-        if zlib.crc32(text or b"", tip) != seal:
-            self.steps(first - 1, tip, last)
-            raise Spoilt(newest, "it is not as it was written")
-        return seal
+        if found is None or found[0] <= first:
+            return self.saved(first).tip
+        if type(found[1]) is not int:
+            raise Spoilt(found[0], "its seal is no number")
+        return int(found[1])
 
     def listed(self, asked: Asked) -> Iterator[tuple[Step, bool]]:
         """The steps that are asked for, and for each whether its change is undone. Raises Spoilt."""
-        tables, wheres, values = "s2ix_step AS step", ["step.id >= ?", "step.id < ?"], [asked.first, asked.limit]
-        if asked.label is not None:
-            tables = "s2ix_label AS label CROSS JOIN s2ix_step AS step ON step.id = label.step"
-            wheres += ["label.label = ?", "label.step >= ?", "label.step < ?"]
-            values += [asked.label, asked.first, asked.limit]
-        if asked.spans is not None:
-            spans = " UNION ".join(["SELECT step FROM s2ix_cell WHERE cell BETWEEN ? AND ?"] * len(asked.spans))
-            wheres.append(f"step.id IN ({spans})")
-            values += [each for span in asked.spans for each in span]
-        given: list[object] = [*values]
+        if asked.label is None and asked.spans is None:
+            if asked.first < asked.limit and not self.asked("SELECT count(*) FROM s2ix_step WHERE id = ?", asked.limit - 1):
+                self.expect_whole(asked.limit - 1, self._seal_before(asked.limit))
+            parts = [self._found(asked, _Part("s2ix_step AS step", "step.id", [], []), asked.first, asked.limit)]
+        else:
+            last = self.state().listed
+            parts = [
+                self._found_listed(asked, min(last + 1, asked.limit)),
+                self._found(asked, self._unlisted_part(asked, last), max(last + 1, asked.first), asked.limit),
+            ]
+        yield from islice(chain.from_iterable(reversed(parts) if asked.is_newest_first else parts), asked.most)
+
+    def _found_listed(self, asked: Asked, limit: int) -> Iterator[tuple[Step, bool]]:
+        """The steps that are asked for and listed before one."""
+        if asked.label is None and asked.spans is not None:
+            tables, spans = _listed_under(asked.spans)
+            missing = self.asked(
+                f"SELECT min(step) FROM ({tables}) WHERE step >= ? AND step < ? AND NOT EXISTS (SELECT 1 FROM s2ix_step WHERE id = step)",
+                *spans, max(asked.first, self.first() + 1), limit
+            )
+            if missing is not None:
+                raise _gone(missing)
+        yield from self._found(asked, _listed_part(asked), asked.first, limit)
+
+    def _unlisted_part(self, asked: Asked, last: int) -> _Part:
+        """Where the steps are that are asked for and come after the last one that is listed. Those few are looked through."""
+        rows = self._run(
+            "SELECT id, change FROM s2ix_step WHERE id > max(?1, ?2 - 1) AND id < ?3 AND kind <> 'join' AND instr(change, ?4)",
+            (last, asked.first, asked.limit, "" if asked.label is None else f" {asked.label} "),
+        )
+        ids = [str(number) for number, change in rows if _has_changed(asked, *_touched(number, change))]
+        return _Part("s2ix_step AS step", "step.id", [f"step.id IN ({', '.join(ids)})"], [])
+
+    def _found(self, asked: Asked, part: _Part, first: int, limit: int) -> Iterator[tuple[Step, bool]]:
+        """The steps of a part of the log that are asked for, from an id on and before another."""
+        if first >= limit:
+            return
+        wheres, values = [*part.wheres, f"{part.id} >= ?", f"{part.id} < ?"], [*part.values, first, limit]
         if asked.who is not None:
-            wheres.append("step.who = ?")
-            given.append(asked.who)
-        order = "label.step" if asked.label is not None else "step.id"
+            # (a label may lead to a step that is gone)
+            wheres.append("step.who = ?" if part.id == "step.id" else "(step.who = ? OR step.id IS NULL)")
+            values.append(asked.who)
         columns = ", ".join(f"step.{name}" for name in _COLUMNS.split(", "))
         rows = self._run(
-            f"SELECT {columns}, {_SEAL_BEFORE}, {_IS_UNDONE} FROM {tables} WHERE {' AND '.join(wheres)} "
-            f"ORDER BY {order} {'DESC' if asked.is_newest_first else 'ASC'} LIMIT ?", (*given, asked.most)
+            f"SELECT {part.id}, {columns}, {_SEAL_BEFORE}, {_IS_UNDONE} FROM {part.tables} WHERE {' AND '.join(wheres)} "
+            f"ORDER BY {part.id} {'DESC' if asked.is_newest_first else 'ASC'} LIMIT ?", (*values, asked.most)
         )
-        first = self.first()
-        start = self.saved(first).tip
-        for *row, before, is_undone in rows:
-            number = row[0]
-            if number <= first:
+        begin = self.first()
+        start = self.saved(begin).tip
+        for number, *row, before, is_undone in rows:
+            if number <= begin:
                 continue
-            step = _step(row, start if before is None or number == first + 1 else before)
+            if row[0] is None:
+                raise _gone(number)
+            step = _step(tuple(row), start if before is None or number == begin + 1 else before)
             _expect_asked(step, asked)
             yield step, bool(is_undone)
 
     def at_time(self, time: int, last: int) -> int:
         """The id of the last step that was made at a time, in microseconds since 1970, or before it. O(log n) for n steps: it halves the
-        log, whose times mostly rise."""
+        log, whose times mostly rise. Raises Spoilt, also if a step is gone after that one."""
         low = self.first()
         while low < last:
             middle = (low + last + 1) // 2
             found = self._run("SELECT id, time FROM s2ix_step WHERE id >= ? ORDER BY id LIMIT 1", (middle,)).fetchone()
+            if found is not None and type(found[1]) is not int:
+                raise Spoilt(found[0], "it has no time")
             if found is None or found[1] > time:
                 last = middle - 1
             else:
                 low = int(found[0])
+        self.expect_whole(low, self.tip_at(low))
         return low
 
 
-def _step(row: Iterable[Any], before: int) -> Step:
+def _step(row: tuple[Any, ...], before: int) -> Step:
     """The step of a row, whose seal goes on from another one. Raises Spoilt."""
+    seal = _seal_after(row, before)
+    number, time, who, note, kind, of_step, change, _ = row
+    return Step(number, time, _text_in(number, who), _text_in(number, note), _text_in(number, kind) or "", of_step, _text_in(number, change), seal)
+
+
+def _text_in(number: int, text: Optional[bytes]) -> Optional[str]:
+    """A text of a step. Raises Spoilt."""
+    try:
+        return None if text is None else text.decode()
+    except ValueError as wrong:
+        raise Spoilt(number, "it has no text") from wrong
+
+
+def _seal_after(row: tuple[Any, ...], before: int) -> int:
+    """The seal of a row of a step, which goes on from another one. Raises Spoilt unless the row is as it was written."""
     number, time, who, note, kind, of_step, change, seal = row
     try:
-        texts = (None if text is None else text.decode() for text in (who, note, kind, change))
-        who, note, kind, change = texts
-        step = Step(number, time, who, note, kind, of_step, change, seal)
-        is_whole = type(time) is int and kind is not None and type(of_step) in (int, type(None)) and step.sealed_after(before) == step
-    except (AttributeError, ValueError) as wrong:
-        raise Spoilt(number, "it has no text") from wrong
-    if not is_whole:
+        text = b"%d\x1f%d\x1f%b\x1f%b\x1f=%b\x1f%b\x1f%b\x1f" % (
+            number, time, b"" if who is None else b"=" + who, b"" if note is None else b"=" + note, kind,
+            b"" if of_step is None else b"%d" % of_step, b"" if change is None else b"=" + change,
+        )
+    except TypeError as wrong:
+        raise Spoilt(number, "it has no text or time") from wrong
+    if type(before) is not int:
+        raise Spoilt(number, "the seal that it goes on from is no number")
+    if type(time) is not int or type(of_step) not in (int, type(None)) or type(seal) is not int or zlib.crc32(text, before) != seal:
         raise Spoilt(number, "it is not as it was written")
-    return step
+    return int(seal)
 
 
 def _expect_asked(step: Step, asked: Asked) -> None:
@@ -237,11 +318,49 @@ def _expect_asked(step: Step, asked: Asked) -> None:
     label.)"""
     if step.change is None or asked.label is None and asked.spans is None:
         return
-    labels, cells = touched(step.change)
+    if not _has_changed(asked, *touched(step.change)):
+        raise Spoilt(step.id, "it is listed under a label or cell that it has not changed")
+
+
+def _has_changed(asked: Asked, labels: set[int], cells: set[int]) -> bool:
+    """Whether what a step changed has the label and cells that are asked for."""
     if asked.label is not None and asked.label not in labels:
-        raise Spoilt(step.id, f"it is listed under label {asked.label}, which it has not changed")
-    if asked.spans is not None and not any(first <= cell <= last for cell in cells for first, last in asked.spans):
-        raise Spoilt(step.id, "it is listed under a cell that it has not changed")
+        return False
+    return asked.spans is None or any(first <= cell <= last for cell in cells for first, last in asked.spans)
+
+
+def _touched(number: int, change: object) -> tuple[set[int], set[int]]:
+    """The labels and cells of the change of a step. Raises Spoilt."""
+    try:
+        if isinstance(change, bytes):
+            return touched(change.decode())
+    except (IndexError, ValueError) as wrong:
+        raise Spoilt(number, "its change is none") from wrong
+    raise Spoilt(number, "it has no text")
+
+
+def _listed_part(asked: Asked) -> _Part:
+    """Where the steps are that are listed under a label or cells."""
+    part = _Part("s2ix_step AS step", "step.id", [], [])
+    if asked.label is not None:
+        # (a label has its steps in their order, so few of them are read for few)
+        tables = "s2ix_label AS label LEFT JOIN s2ix_step AS step ON step.id = label.step"
+        part = _Part(tables, "label.step", ["label.label = ?"], [asked.label])
+    if asked.spans is not None:
+        tables, spans = _listed_under(asked.spans)
+        part.wheres.append(f"{part.id} IN ({tables})")
+        part.values.extend(spans)
+    return part
+
+
+def _listed_under(spans: list[tuple[int, int]]) -> tuple[str, list[int]]:
+    """What asks for the steps that are listed under cells, with values for it."""
+    question = " UNION ".join(["SELECT step FROM s2ix_cell WHERE cell BETWEEN ? AND ?"] * len(spans))
+    return question, [each for span in spans for each in span]
+
+
+def _gone(number: float) -> Spoilt:
+    return Spoilt(int(number), "it is listed under a label or cell, but it is gone")
 
 
 def _spans(ids: list[int]) -> Iterator[tuple[int, int]]:

@@ -42,13 +42,15 @@ atexit.register(_DROPPED.clear)
 class Calls:
     """A handle of the library, and calls over it."""
 
-    __slots__ = ("_calls", "_handle", "_at_handle", "_ask_at", "_buffers", "_edit", "_running", "_groups")
+    __slots__ = ("_calls", "_handle", "_at_handle", "_asker", "_ask_at", "_buffers", "_edit", "_running", "_groups")
 
     def _prepare(self) -> None:
         """Makes a closed handle, and what its calls want beside it."""
         self._calls: Any = library.of_a_handle()
         self._handle = library.Handle()
         self._at_handle = addressof(self._handle)
+        # What asks single questions without ctypes, if there is something. If it answers None, ctypes is asked.
+        self._asker = library.asker_of(self._handle, Row)
         # A second s2ix_at, which takes objects of ctypes as they are: to look at their types takes a third of a call's time.
         self._ask_at: Callable[..., int] = self._calls["s2ix_at"]
         dropped = _Dropped(self, library.load().s2ix_close)
@@ -87,7 +89,7 @@ class Calls:
         lists = [] if cells is None else [cells.buffer_info()]
         while True:
             try:
-                rows = self._page(call, room, *chain.from_iterable(lists), place)
+                rows = self._page(call, PACKED, rows_of, room, *chain.from_iterable(lists), place)
             except NoCell:
                 raise wrong_cell(*lists) from None
             if place:
@@ -97,19 +99,19 @@ class Calls:
                 return
             place, room = place + room, 2 * room
 
-    def _page(self, call: Callable[..., int], room: int, *given: int) -> list[Row]:
-        """One page of a list: so many rows, or as many as are left."""
+    def _page(self, call: Callable[..., int], size: int, read: Callable[[memoryview], _Read], room: int, *given: int) -> _Read:
+        """One page of a list of items of so many bytes: as many as there is room for, or as are left."""
         try:
             buffer = self._buffers.pop()
         except IndexError:
             buffer = self._new_buffer()
-        if len(buffer[1]) < room * PACKED:
-            buffer = self._new_buffer(room * PACKED)
+        if len(buffer[1]) < room * size:
+            buffer = self._new_buffer(room * size)
         words, found, _, at_number, start = buffer
         expect(call(self._at_handle, *given, start, room, at_number))
-        rows = rows_of(found[: words[0] * PACKED])
+        items = read(found[: words[0] * size])
         self._buffers.append(buffer)
-        return rows
+        return items
 
     def _new_buffer(self, size: int = _FIRST) -> _Buffer:
         """A buffer with room for a list of so many bytes."""

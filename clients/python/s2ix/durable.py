@@ -8,12 +8,12 @@ from datetime import datetime
 from functools import partial
 from typing import Any, Callable, Optional, TypeVar, Union
 
-from s2ix.form import EMPTY, Limits, Noted, Undone, inverse_of, shortening_writes
+from s2ix.form import EMPTY, Limits, Noted, Undone, inverse_of
 from s2ix.given import MOST_LABEL, MOST_U32, MOST_U63, Cells, Entries, Rows, Text, bytes_of, check, check_natural
 from s2ix.groups import Block, Group, OpenGroup
 from s2ix.index import Index
 from s2ix.index_file import IndexFile, naming
-from s2ix.kept import Edit, Words, text_of, undone_after
+from s2ix.kept import Cut, Edit, Words, text_of, undone_after
 from s2ix.logged import Log, Logged, Moment, asked_for, cut_at
 from s2ix.refusals import BelowZero, NoLabel, NoLimits, NoSuchChange, NothingToRedo, NothingToUndo, TooFewChanges
 from s2ix.tokens import Cell
@@ -94,7 +94,8 @@ class Durable(Log):
         `synchronous` is FULL, by which no step is lost if the power fails, or NORMAL, which is faster, and may lose the last steps then; if
         only the process is killed, no step is lost. `timeout` is how many seconds a step waits while another process writes, and a reader
         until another has made the file. `who` makes each step that doesn't say so itself. With `keep="newest"` an edit that finds as many
-        changes as the limit allows forgets the oldest fourth of them, as `forget_older` does, and a group begins with room for a fourth.
+        changes as the limit allows forgets the oldest fourth of them, as `forget_older` does, and a group begins with room for a fourth. They
+        stay forgotten if the file then refuses the edit.
 
         A file of 0 bytes is a new one. A file as s2ix 1.1 wrote it is taken over into today's form, which 1.1 can't read; with `read_only`
         it stays as it is. Raises Spoilt if it is no file of an index, or not as it was written, or if its log is there without it;
@@ -139,7 +140,8 @@ class Durable(Log):
         self._file.expect_writer()
         if self._groups:
             return self._edit_in_group(make, given)
-        self._make_room(edit.room, edit.words)
+        if self._keeps_newest:
+            self._make_room(edit.room, edit.words)
         return self._whole(partial(self._edit_and_keep, edit, make, given), self._restore)
 
     def _edit_and_keep(self, edit: Edit, make: Callable[..., Any], given: tuple[Any, ...]) -> Any:
@@ -161,23 +163,22 @@ class Durable(Log):
         """Keeps the changes that the file hasn't, and drops what can be redone, if there is one or it is over. Without either it keeps what
         is noted of a label, and what a caller wrote."""
         noted = self._file.noted
-        many, done = noted.many, self._done()
-        changes: list[Optional[str]] = [self._lines_of(number) for number in range(many + 1, done)]
-        if done > many:
-            changes.append(self._last_change(done))
+        many = noted.many
+        changes = self._changes_after(many)
+        if changes:
             first = noted.state.last + 1
             noted.standing[many:] = range(first, first + len(changes))
-            self._put(edit.kind, edit.words, changes, noted.standing, done, [], of=edit.of)
+            self._put(edit.kind, edit.words, changes, noted.standing, many + len(changes), [], of=edit.of)
         elif is_over and noted.undone:
             self._put(edit.kind, edit.words, [None], noted.standing, many, [])
         elif is_lent or edit.label is not None and edit.words.note is not None:
             self._put(edit.kind, edit.words, [] if is_lent else [None], noted.standing, many, noted.undone, label=edit.label)
 
     def _make_room(self, many: int, words: Words) -> None:
-        """Forgets the oldest changes, if it may, and there is no room for so many more."""
+        """Forgets the oldest changes, if there is no room for so many more."""
         noted = self._file.noted
         most = noted.state.changes
-        if self._keeps_newest and noted.many + many > most:
+        if noted.many + many > most:
             self._forget_but(max(0, min(most * 3 // 4, most - many)), Words(None, words.who))
 
     # Edits, each with a note.
@@ -241,7 +242,8 @@ class Durable(Log):
             # (to make room moves the numbers of changes, and not their ids)
             id = place if change is None else self._id_at(place)
             self._file.expect_writer()
-            self._make_room(1, words)
+            if self._keeps_newest:
+                self._make_room(1, words)
             place = self._place_of(id)
         elif change is None:
             place = self._place_of(place)
@@ -267,16 +269,14 @@ class Durable(Log):
 
     def restore(self, label: int, before: int, *, note: Optional[str] = None, who: Optional[str] = None) -> int:
         """Gives a label the cells and counts that it had before a step in the log, by its id, as one new change, whatever came later;
-        returns how many pairs changed. O(n + m) for n pairs and m entries of the steps of the label from that one on. Raises NoLabel,
-        NoSuchChange if the log hasn't got the step, Spoilt, and what each edit may, as NoChange if the label is as it was."""
+        returns how many pairs changed. O(n + m) for n pairs and the m entries of the steps between that one and the state that was saved
+        last before it. Raises NoLabel, NoSuchChange if the log hasn't got the step, Spoilt, and what each edit may, as NoChange if the label
+        is as it was."""
         return self._step("restore", (note, who), self._restore_label, label, before, of=operator.index(before))
 
     def _restore_label(self, label: int, before: int) -> int:
         label, before = check(label, MOST_LABEL, NoLabel), check(before, MOST_U63, NoSuchChange)
-        index = self._before if self._groups and self._before is not None else self
-        # (the log has nothing of a group that has not ended)
-        logged = {row.cell: row.count for row in Index.of_label(index, label)}
-        wanted = self._file.reading(lambda book: self._label_before(book, label, before, logged))
+        wanted = self._file.reading(lambda book: self._label_before(book, label, before))
         return self._give_label(label, self._counts_of(label), wanted)
 
     def record(self, entries: Entries, *, note: Optional[str] = None, who: Optional[str] = None) -> int:
@@ -327,8 +327,10 @@ class Durable(Log):
     def transaction(self, *, note: Optional[str] = None, who: Optional[str] = None) -> Transaction:
         """A group whose `with` gives SQLite's connection, for tables of your own: what you write to them and the group's step are both in
         the file, or neither. Nobody else writes to the file until it ends. The connection refuses to end the transaction, to attach files,
-        and to change tables whose names begin with `s2ix_`; give it up when the `with` ends. If the `with` ends with an exception, or the
-        file refuses it, what you wrote is gone too. It begins in no group, and costs and raises what `group` does.
+        and to change tables whose names begin with `s2ix_`. Give it up when the `with` ends, and each cursor with rows that you haven't
+        read: as long as one is there, SQLite shows nothing new of the file and may keep others from writing. If the `with` ends with an exception, the
+        file refuses it, or a statement of yours rolls it back, as INSERT OR ROLLBACK may, what you wrote is gone too, and nothing more is
+        written. It begins in no group, and costs and raises what `group` does.
 
         >>> import os, tempfile
         >>> with Durable(os.path.join(tempfile.mkdtemp(), "zones.db")) as zones:
@@ -351,7 +353,8 @@ class Durable(Log):
         self._file.expect_writer()
         if not self._groups:
             self._has_edited, self._redoable = False, 0
-            self._make_room(max(1, self._file.noted.state.changes // 4), words)
+            if self._keeps_newest:
+                self._make_room(max(1, self._file.noted.state.changes // 4), words)
         elif group.is_lent:
             raise RuntimeError("a transaction begins in no group")
         try:
@@ -369,10 +372,12 @@ class Durable(Log):
             return super()._end(group, is_kept)
         self._close_groups(within)
         self._whole(partial(self._keep_group, group, is_kept), lambda _: self._restore_group(group))
+        self._file.expect_uninterrupted()
         return True
 
     def _keep_group(self, group: OpenGroup, is_kept: bool) -> None:
         if is_kept:
+            self._file.expect_uninterrupted()
             self._join_from(group.first)
             self._keep(Edit("group", Words(group.note, group.who), None, 0, None), self._has_edited, group.is_lent)
             self._close_groups([group])
@@ -525,7 +530,7 @@ class Durable(Log):
         """Forgets all changes, and makes the file as small as it can be; the log stays. With `before`, a step's id or a datetime with its
         zone, it forgets only what was done before that, and takes those steps from the log, which says so: then `as_of` and `entries` don't
         reach to them. O(n) for n bytes. Raises NotKept, and sqlite3.Error if the file, or what SQLite keeps beside it, stays as large: then
-        all else is done."""
+        all else is done. What it forgets is a step of its own, which stays if the file refuses what follows."""
         self._in_turn(self._compact, asked_for(before), self._whose(note, who))
 
     def _compact(self, before: Union[int, datetime, None], words: Words) -> None:
@@ -547,8 +552,9 @@ class Durable(Log):
         many = next((place for place in range(noted.many, 0, -1) if noted.standing[place - 1] <= last), 0)
         self._forget_but(noted.many - many, words)
         noted = self._file.noted
-        undone, writes = undone_after(noted.undone, last), shortening_writes(cut)
-        put = partial(self._put, "compact", words, [None], noted.standing, noted.many, undone, of=last, dump=Index.dump(self), more=writes)
+        undone = undone_after(noted.undone, last)
+        shorter = Cut(cut, self._file.reading(lambda book: book.listed_sum(last)))
+        put = partial(self._put, "compact", words, [None], noted.standing, noted.many, undone, of=last, dump=Index.dump(self), cut=shorter)
         self._whole(put, lambda _: None)
 
     def backup(self, path: Union[str, os.PathLike[str]]) -> None:

@@ -124,11 +124,11 @@ class Edits(Calls):
 
     def set_label(self, label: int, cells: Cells, *, same_ok: bool = False) -> int:
         """Makes one copy of each cell of the normal form of a union all that a label has, as one change; returns how many pairs changed. So
-        it drops what the label has elsewhere, and a pair of several copies keeps one. Without cells it is `drop_label`. O(n + m log m) for
-        all n pairs that are held and m cells that the label has or gets, each of which takes some 2 µs. It reads the label, and then edits:
-        if another thread changes one of the pairs between, it raises Mismatch, and nothing has changed. Raises NoLabel, NoCell with the
-        first number that is no cell's and its place, NoSuchLabel without cells, and what each edit may, as NoChange if the label has just
-        these. With `same_ok` it returns 0 in place of NoChange and NoSuchLabel.
+        it drops what the label has elsewhere, and a pair of several copies keeps one. Without cells it is `drop_label`. It finds the
+        label's pairs as `of_label` does, and O(m log m) for m cells that the label has or gets, each of which takes some 2 µs. It reads the
+        label, and then edits: if another thread changes one of the pairs between, it raises Mismatch, and nothing has changed. Raises NoLabel,
+        NoCell with the first number that is no cell's and its place, NoSuchLabel without cells, and what each edit may, as NoChange if the
+        label has just these. With `same_ok` it returns 0 in place of NoChange and NoSuchLabel.
 
         >>> from s2ix import Index
         >>> index = Index()

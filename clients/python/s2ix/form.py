@@ -4,9 +4,12 @@ from __future__ import annotations
 import os
 import re
 import zlib
-from typing import Iterable, NamedTuple, Optional, Union
+from typing import Iterable, NamedTuple, Optional, Sequence, Union
 
 from s2ix.refusals import S2ixError
+
+# (a call of a class of named tuples takes longer)
+_new = tuple.__new__
 
 #: How many pairs, copies of each, and changes an index may have.
 Limits = tuple[int, int, int]
@@ -21,11 +24,12 @@ TABLES = {
     "s2ix_cell": "CREATE TABLE s2ix_cell (cell INTEGER, step INTEGER, PRIMARY KEY (cell, step)) WITHOUT ROWID",
     "s2ix_label": "CREATE TABLE s2ix_label (label INTEGER, step INTEGER, PRIMARY KEY (label, step)) WITHOUT ROWID",
     "s2ix_saved": (
-        "CREATE TABLE s2ix_saved (step INTEGER PRIMARY KEY, tip INTEGER, standing TEXT, undone TEXT, dump TEXT, seal INTEGER)"
+        "CREATE TABLE s2ix_saved (step INTEGER PRIMARY KEY, tip INTEGER, standing TEXT, undone TEXT, changes INTEGER, dump TEXT, "
+        "seal INTEGER)"
     ),
     "s2ix_state": (
-        "CREATE TABLE s2ix_state (version INTEGER, last INTEGER, tip INTEGER, saved INTEGER, pairs INTEGER, copies INTEGER, "
-        "changes INTEGER, seal INTEGER)"
+        "CREATE TABLE s2ix_state (version INTEGER, last INTEGER, tip INTEGER, saved INTEGER, listed INTEGER, listed_sum INTEGER, "
+        "pairs INTEGER, copies INTEGER, changes INTEGER, seal INTEGER)"
     ),
     "s2ix_step": (
         "CREATE TABLE s2ix_step (id INTEGER PRIMARY KEY, time INTEGER, who TEXT, note TEXT, kind TEXT, of_step INTEGER, change TEXT, "
@@ -84,6 +88,8 @@ class State(NamedTuple):
     last: int = 0
     tip: int = 0
     saved: int = 0
+    listed: int = 0
+    listed_sum: int = 0
     pairs: int = 0
     copies: int = 0
     changes: int = 0
@@ -95,7 +101,7 @@ class State(NamedTuple):
     def sealed(self) -> tuple[int, ...]:
         """The row with its seal."""
         # (as `seal_of`, but each step has one)
-        return (*self, zlib.crc32(b"%d\x1f%d\x1f%d\x1f%d\x1f%d\x1f%d\x1f%d\x1f" % self))
+        return (*self, zlib.crc32(b"%d\x1f%d\x1f%d\x1f%d\x1f%d\x1f%d\x1f%d\x1f%d\x1f%d\x1f" % self))
 
 
 class Step(NamedTuple):
@@ -110,9 +116,17 @@ class Step(NamedTuple):
     change: Optional[str] = None
     seal: int = 0
 
-    def sealed_after(self, before: int) -> Step:
-        """The step with its seal, which goes on from another."""
-        return Step(*self[:-1], seal_of(self[:-1], before))
+
+def step_after(
+    before: int, id: int, time: int, who: Optional[str], note: Optional[str], kind: str, of_step: Optional[int], change: Optional[str]
+) -> Step:
+    """A step with its seal, which goes on from another."""
+    # (as `seal_of`, but each step has one)
+    text = (
+        f"{id}\x1f{time}\x1f{'' if who is None else f'={who}'}\x1f{'' if note is None else f'={note}'}\x1f={kind}\x1f"
+        f"{'' if of_step is None else of_step}\x1f{'' if change is None else f'={change}'}\x1f"
+    )
+    return _new(Step, (id, time, who, note, kind, of_step, change, zlib.crc32(text.encode(), before)))
 
 
 class Saved(NamedTuple):
@@ -122,6 +136,7 @@ class Saved(NamedTuple):
     tip: int
     standing: str
     undone: str
+    changes: int
     dump: str
     seal: int = 0
 
@@ -136,7 +151,8 @@ Undone = tuple[int, str]
 
 class Noted(NamedTuple):
     """What is noted of a file: its state; the steps whose changes can be undone, so many of a list, which may have other ids behind them;
-    those whose changes can be redone, the next one last; and how many bytes of steps have come since the last saved state, and its own."""
+    those whose changes can be redone, the next one last; how many bytes of steps have come since the last saved state, and its own; the
+    steps that aren't listed yet, of a list that may have others behind them, and their bytes; and the time of the last step."""
 
     state: State = State()
     standing: list[int] = []
@@ -144,18 +160,20 @@ class Noted(NamedTuple):
     undone: list[Undone] = []
     since: int = 0
     size: int = 0
+    unlisted: list[Step] = []
+    waiting: int = 0
+    time: int = 0
+
+    def with_unlisted(self, steps: list[Step]) -> list[Step]:
+        """The steps that aren't listed, and others after them. What is noted stays."""
+        self.unlisted[self.state.last - self.state.listed :] = steps
+        return self.unlisted
 
 
 def seal_of(values: Iterable[Union[int, str, None]], before: int = 0) -> int:
     """A number that shows whether a row is as it was written, and what it follows."""
     texts = ["" if each is None else f"={each}" if isinstance(each, str) else str(each) for each in values]
     return zlib.crc32("\x1f".join([*texts, ""]).encode(), before)
-
-
-#: The bytes of a step that its seal is of, in SQL.
-SEALED = "||".join(
-    f"coalesce({value},'')||char(31)" for value in ("id", "time", "'='||who", "'='||note", "'='||kind", "of_step", "'='||change")
-)
 
 
 def new_version() -> int:
@@ -210,24 +228,34 @@ def inverse_of(change: str) -> str:
 
 
 #: What is to be written: a statement of SQL, and the rows that it is run with.
-Write = tuple[str, Iterable[tuple[object, ...]]]
+Write = tuple[str, Sequence[tuple[object, ...]]]
 
 PUT_STATE = (
-    "UPDATE s2ix_state SET version = ?, last = ?, tip = ?, saved = ?, pairs = ?, copies = ?, changes = ?, seal = ? WHERE version = ?"
+    "UPDATE s2ix_state SET version = ?, last = ?, tip = ?, saved = ?, listed = ?, listed_sum = ?, pairs = ?, copies = ?, changes = ?, "
+    "seal = ? WHERE version = ?"
 )
-_PUT_STEP = "INSERT INTO s2ix_step VALUES (?, ?, ?, ?, ?, ?, ?, ?)"
-PUT_LABEL, _PUT_CELL = "INSERT INTO s2ix_label VALUES (?, ?)", "INSERT INTO s2ix_cell VALUES (?, ?)"
-PUT_SAVED = "INSERT INTO s2ix_saved VALUES (?, ?, ?, ?, ?, ?)"
+PUT_STEP = "INSERT INTO s2ix_step VALUES (?, ?, ?, ?, ?, ?, ?, ?)"
+PUT_SAVED = "INSERT INTO s2ix_saved VALUES (?, ?, ?, ?, ?, ?, ?)"
+_PUT_LABEL, _PUT_CELL = "INSERT INTO s2ix_label VALUES (?, ?)", "INSERT INTO s2ix_cell VALUES (?, ?)"
+# A prime below 2^16, by which the number of a listed row is made.
+_PRIME = 65_521
+#: The sum of the numbers of the rows that list what steps after one changed.
+LISTED_SUM = " + ".join(
+    f"(SELECT coalesce(sum((abs({name} % {_PRIME}) + 1) * (step % {_PRIME} + 1)), 0) FROM s2ix_{name} WHERE step > ?1)"
+    for name in ("label", "cell")
+)
 
 
-def step_writes(step: Step) -> list[Write]:
-    """What puts a step into its table, with the labels and cells of what it changed."""
-    writes: list[Write] = [(_PUT_STEP, (step,))]
-    if step.change is not None and step.kind != "join":
-        # (they rise, so that rows come in the order of their tables)
-        for statement, touches in zip((PUT_LABEL, _PUT_CELL), touched(step.change)):
-            writes.append((statement, [(each, step.id) for each in sorted(touches)]))
-    return writes
+def listing_of(steps: Iterable[Step], labels: Iterable[tuple[int, int]] = ()) -> tuple[list[Write], int]:
+    """What lists the labels and the cells of what steps changed, and other labels with their steps; and the sum of the rows' numbers."""
+    rows: tuple[list[tuple[int, int]], list[tuple[int, int]]] = [*labels], []
+    for step in steps:
+        if step.change is not None and step.kind != "join":
+            for listed, touches in zip(rows, touched(step.change)):
+                listed += [(each, step.id) for each in touches]
+    # (they rise, so that rows come in the order of their tables)
+    writes: list[Write] = [(statement, sorted(listed)) for statement, listed in zip((_PUT_LABEL, _PUT_CELL), rows) if listed]
+    return writes, sum((abs(each) % _PRIME + 1) * (step % _PRIME + 1) for listed in rows for each, step in listed)
 
 
 def shortening_writes(saved: Saved) -> list[Write]:

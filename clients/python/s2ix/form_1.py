@@ -10,7 +10,10 @@ import zlib
 from datetime import datetime, timedelta, timezone
 from typing import Any, NamedTuple
 
-from s2ix.form import FORM, HEAD, INDEXES, MARK, TABLES, Saved, Spoilt, State, Step, inverse_of, new_version, step_writes
+from s2ix.form import (
+    FORM, HEAD, INDEXES, MARK, PUT_SAVED, PUT_STEP, TABLES, Saved, Spoilt, State, Step, inverse_of, listing_of, new_version,
+    step_after,
+)
 
 SCHEMA = [
     (b"table", b"change", b"change",
@@ -97,22 +100,30 @@ def take_over(old: sqlite3.Connection, new: sqlite3.Connection) -> None:
             new.execute(f"DROP TABLE {name.decode()}")
     for words in (*TABLES.values(), *INDEXES.values()):
         new.execute(words)
-    saved = Saved(steps[0].id - 1 if steps else given.last, 0, "", "", dump).sealed()
-    tip = saved.tip
-    for step in steps:
-        sealed = step.sealed_after(tip)
-        tip = sealed.seal
-        for statement, rows in step_writes(sealed):
-            new.executemany(statement, rows)
+    saved = Saved(steps[0].id - 1 if steps else given.last, 0, "", "", 0, dump).sealed()
+    made, tip = _in_order(steps, saved.tip)
+    listed, listed_sum = listing_of(made)
+    for statement, rows in ((PUT_STEP, made), *listed):
+        new.executemany(statement, rows)
     last = max(given.last, steps[-1].id if steps else 0)
     # (who reads both forms sees by the version that all is new)
     version = new_version() if old is new else given.version
-    put(new, State(version, last, tip, saved.seal, given.pairs, given.copies, given.changes), saved)
+    put(new, State(version, last, tip, saved.seal, last, listed_sum, given.pairs, given.copies, given.changes), saved)
+
+
+def _in_order(steps: list[Step], tip: int) -> tuple[list[Step], int]:
+    """Steps with their seals, the first of which goes on from another, and the last seal. None is earlier than the one before it."""
+    made, time = [], 0
+    for step in steps:
+        time = max(time, step.time)
+        made.append(step_after(tip, *step._replace(time=time)[:-1]))
+        tip = made[-1].seal
+    return made, tip
 
 
 def put(connection: sqlite3.Connection, state: State, saved: Saved) -> None:
     """Puts a first state into its tables, and says what they are."""
-    connection.execute("INSERT INTO s2ix_saved VALUES (?, ?, ?, ?, ?, ?)", saved)
-    connection.execute("INSERT INTO s2ix_state VALUES (?, ?, ?, ?, ?, ?, ?, ?)", state.sealed())
+    connection.execute(PUT_SAVED, saved)
+    connection.execute(f"INSERT INTO s2ix_state VALUES ({', '.join('?' * len(State._fields))}, ?)", state.sealed())
     connection.execute(f"PRAGMA application_id = {MARK}")
     connection.execute(f"PRAGMA user_version = {FORM}")

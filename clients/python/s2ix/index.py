@@ -13,13 +13,15 @@ from s2ix.given import (
 from s2ix.groups import Group, OpenGroup
 from s2ix.refusals import NoCell, NoLabel, NoLimits, NoRange, NoSuchChange, NothingToUndo, TooFewChanges, expect, expect_at
 from s2ix.rows import (
-    ENTRY, HALF, HELD, PACKED, WORD, Entry, HeldLabel, Range, Row, entries_of, held_of, labels_of, new_row, numbers_of, row_in, rows_of,
-    text_of, view_of, words_of,
+    ENTRY, HALF, HELD, PACKED, RANGE, WORD, Entry, HeldLabel, Range, Row, entries_of, held_of, labels_of, new_row, numbers_of, ranges_of,
+    row_in, rows_of, text_of, view_of, words_of,
 )
 from s2ix.tokens import Cell, no_cell
 
 _Read = TypeVar("_Read")
 
+# How many ranges the first page of them has.
+_FIRST_RANGES = 32
 # How a line begins that changes no pair.
 _STILL = tuple(b"at meet labels ranges region common only path neighbors face dump journal export forget #".split())
 
@@ -328,6 +330,11 @@ class Index(Edits):
         >>> [(hex(row.cell), row.label, row.count) for row in index.at("0400000000000001")]
         [('0x400000000000000', 9, 1), ('0x1000000000000000', 3, 1)]
         """
+        asker = self._asker
+        if asker is not None:
+            found = asker.at(leaf)
+            if found is not None:
+                return found
         if leaf.__class__ is str:
             leaf = number_of(leaf)
         try:
@@ -400,7 +407,11 @@ class Index(Edits):
         >>> [(hex(row.cell), row.label) for row in index.meet(["0c", "14"])]
         [('0xc00000000000000', 9), ('0x1000000000000000', 3)]
         """
-        return self._of_cells(self._calls.s2ix_meet, PACKED, rows_of, cells)
+        asker = self._asker
+        found = None if asker is None else asker.meet(cells)
+        if found is None:
+            found = self._of_cells(self._calls.s2ix_meet, PACKED, rows_of, cells, None if asker is None else asker.meet_in)
+        return found
 
     def meet_view(self, cells: Cells) -> memoryview:
         """What `meet` returns, packed: each item is a cell of 8 bytes, a label of 4 and a count of 4. `add_all` takes it for rows, and
@@ -425,7 +436,11 @@ class Index(Edits):
         >>> index.add("04", 9), index.add("1", 3), index.labels("04"), index.labels(["0c", "1c"])
         (1, 1, [3, 9], [3])
         """
-        return self._of_cells(self._calls.s2ix_labels, HALF, labels_of, cells)
+        asker = self._asker
+        found = None if asker is None else asker.labels(cells)
+        if found is None:
+            found = self._of_cells(self._calls.s2ix_labels, HALF, labels_of, cells, None if asker is None else asker.labels_in)
+        return found
 
     def meet_each(self, targets: Targets, threads: int = 1, *, bounds: Optional[Bounds] = None) -> tuple[Any, Any]:
         """What `meet` returns for each of many targets, as two arrays like those of `at_each`: the number of rows of the targets up to this
@@ -465,8 +480,8 @@ class Index(Edits):
         return labels_met_by_each(self, targets, threads, bounds)
 
     def region(self, label: int) -> list[int]:
-        """The region of a label: the normal union of its cells, rising; [] if no pair of it is held. O(n + m log m) for m pairs of the
-        label. Raises Closed, NoLabel or OutOfMemory.
+        """The region of a label: the normal union of its cells, rising; [] if no pair of it is held. It takes what `of_label` does,
+        and O(m log m) for m pairs. Raises Closed, NoLabel or OutOfMemory.
 
         >>> index = Index()
         >>> index.add_all([("04", 9, 1), ("0c", 9, 2), ("14", 9, 1), ("1c", 9, 1)]), [hex(cell) for cell in index.region(9)]
@@ -480,6 +495,11 @@ class Index(Edits):
 
     def count(self, cell: Cell, label: int) -> int:
         """How many copies of a cell are held under a label: 0 if the pair is not held. O(log n). Raises Closed, NoCell or NoLabel."""
+        asker = self._asker
+        if asker is not None:
+            found = asker.count(cell, label)
+            if found is not None:
+                return found
         number, copies = number_of(cell), ctypes.c_uint32()
         label = check(label, MOST_U32, NoLabel)
         status = self._calls.s2ix_count(self._at_handle, number, label, addressof(copies))
@@ -560,27 +580,27 @@ class Index(Edits):
         return Range(place, start.value, limit.value, is_empty.value)
 
     def ranges(self, full: bool = False) -> Iterator[Range]:
-        """The ranges in order, which together have all leaves; with `full`, only those over which a pair lies. O(log n) for each. Raises
-        Closed, and RuntimeError if there was an edit, even a refused one, since the first: an edit moves the places.
+        """The ranges in order, which together have all leaves; with `full`, only those over which a pair lies. They are read in pages, each by
+        one search, O(log n), and twice as long as the one before. Raises Closed, and RuntimeError if there was an edit, even a refused one,
+        since the first: an edit moves the places.
 
         >>> index = Index()
         >>> index.add("04", 9), [(hex(each.start), hex(each.limit)) for each in index.ranges(full=True)]
         (1, [('0x1', '0x800000000000001')])
         """
-        place, edit = 0, self._last_edit()
+        place, room, edit = 0, _FIRST_RANGES, self._last_edit()
         while True:
-            try:
-                found = self.range(place)
-            except NoRange:
-                found = None
-            if place:
-                self._expect_still(edit)
-            if found is None:
+            page = self._page(self._calls.s2ix_ranges, RANGE, ranges_of, room, place)
+            for start, limit, is_empty in page:
+                if place:
+                    self._expect_still(edit)
+                if not (full and is_empty):
+                    yield Range(place, start, limit, is_empty)
+                place += 1
+            self._expect_still(edit)
+            if len(page) < room:
                 return
-            # (two neighbours are never both empty)
-            if not (full and found.is_empty):
-                yield found
-            place += 1
+            room *= 2
 
     def find(self, leaf: Cell) -> Range:
         """The range that has a leaf. O(log n). Raises Closed or NoCell.
@@ -617,7 +637,8 @@ class Index(Edits):
         return self._listed(self._calls.s2ix_contents, PACKED, rows_of, place, number_of(start))
 
     def of_label(self, label: int) -> list[Row]:
-        """The pairs of a label, by rising cell; [] if none is held. O(n) for all n pairs that are held. Raises Closed or NoLabel.
+        """The pairs of a label, by rising cell; [] if none is held. O(p + k) for p parts of a few hundred pairs and the k pairs of those that may
+        have the label, mostly those that have it, and at worst all. Raises Closed or NoLabel.
 
         >>> index = Index()
         >>> index.add_union(["04", "0c"], 9), [hex(row.cell) for row in index.of_label(9)], index.of_label(3)
@@ -722,9 +743,15 @@ class Index(Edits):
         label = check(label, MOST_U32, NoLabel)
         return self._listed(self._calls.s2ix_region, WORD, read, label)
 
-    def _of_cells(self, call: Callable[..., int], size: int, read: Callable[[memoryview], _Read], cells: Cells) -> _Read:
-        """What a query about cells finds."""
+    def _of_cells(
+        self, call: Callable[..., int], size: int, read: Callable[[memoryview], _Read], cells: Cells,
+        ask: Optional[Callable[[int, int], Optional[_Read]]] = None,
+    ) -> _Read:
+        """What a query about cells finds. It is asked by a call, or first by what needs no ctypes."""
         start, many, _kept = cells_in(cells)
+        found = None if ask is None else ask(start, many)
+        if found is not None:
+            return found
         try:
             return self._listed(call, size, read, start, many)
         except NoCell:

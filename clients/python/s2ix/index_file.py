@@ -6,10 +6,11 @@ import os
 import shutil
 import sqlite3
 import sys
-
 import time
 import weakref
 from contextlib import contextmanager
+from functools import lru_cache
+from itertools import count
 from typing import Any, Callable, Iterator, NamedTuple, Optional, TypeVar
 
 from s2ix import form_1
@@ -22,18 +23,21 @@ from s2ix.place import Place, leak, shut
 from s2ix.refusals import Closed, S2ixError
 
 _Made = TypeVar("_Made")
-# A file of at most so many pages is looked through when it is opened.
+# A file of at most so many pages is looked through when it is opened, a larger one isn't.
 _FEW_PAGES = 4096
 # How many pages SQLite's log has before they go into the file.
 _LOG_PAGES = 2000
 
 
 class Found(NamedTuple):
-    """What a file holds that isn't noted: its state, what to start from unless the noted steps go on, and the steps then."""
+    """What a file holds that isn't noted: its state, what to start from unless the noted steps go on, the steps then, the time of the last
+    one in the log, and the state that was saved last, if the noted steps go on and it is another than before."""
 
     state: State
     start: Optional[Start]
     steps: list[Step]
+    time: int
+    saved: Optional[Saved]
 
 
 @contextmanager
@@ -71,11 +75,14 @@ class IndexFile:
 
     def __init__(self, path: str, limits: Limits, *, read_only: bool, synchronous: str, timeout: float) -> None:
         self.noted = Noted()
+        # The versions of its steps. (None begins where another may: not in a forked child, nor when the file is opened again.)
+        self.versions = count(new_version())
         # The version of a step whose COMMIT has neither ended nor been mended.
         self._unsure: Optional[int] = None
         self._reads_only, self._process, self._form = read_only, os.getpid(), FORM
-        # Whether a caller has the connection, in a transaction; and whether the file has begun to close.
+        # Whether a caller has the connection, in a transaction, and what guards it then; and whether the file has begun to close.
         self._is_lent = self._is_ending = False
+        self._guard: Optional[Guard] = None
         # Why the connection was given up: a class and its words.
         self._left: Optional[tuple[type[Exception], str]] = None
         self._place = Place(path)
@@ -151,8 +158,8 @@ class IndexFile:
             if not os.stat(self._place.real).st_size:
                 for each in (*TABLES.values(), *INDEXES.values()):
                     self._run(each)
-                saved = Saved(0, 0, "", "", EMPTY).sealed()
-                form_1.put(self._connection, State(new_version(), 0, 0, saved.seal, *limits), saved)
+                saved = Saved(0, 0, "", "", 0, EMPTY).sealed()
+                form_1.put(self._connection, State(new_version(), 0, 0, saved.seal, 0, 0, *limits), saved)
             self._run("COMMIT")
         finally:
             self._roll_back()
@@ -199,6 +206,9 @@ class IndexFile:
         """Raises NotKept if no step can be kept, and Closed in a forked child."""
         if self._reads_only:
             raise NotKept("the file is open to be read")
+        # (each step asks)
+        if self._process == os.getpid() and self._left is None and not self._is_ending:
+            return
         try:
             self._expect_here()
         except sqlite3.Error as raised:
@@ -272,9 +282,12 @@ class IndexFile:
     def _news(self, book: Book) -> Optional[Found]:
         """What the log has that isn't noted. Raises Spoilt."""
         noted = self.noted.state
-        if noted.version == -1:
+        is_looked_through = noted.version == -1 and self._asked("PRAGMA page_count") <= _FEW_PAGES
+        if is_looked_through:
             self._check_pages()
         state = book.state()
+        if is_looked_through and not book.is_listed(state):
+            raise Spoilt(0, "its labels or cells are listed in another way")
         if state.version == noted.version:
             return None
         start = None if noted.version != -1 and book.first() <= noted.last and book is self._book else book.start(state)
@@ -282,7 +295,8 @@ class IndexFile:
         steps = book.steps(after, tip, state.last)
         if (steps[-1].seal if steps else tip) != state.tip or start is not None and not book.is_between(state):
             raise Spoilt(0, "its steps are those of another state")
-        return Found(state, start, steps)
+        saved = book.saved(state.last) if start is None and state.saved != noted.saved else None
+        return Found(state, start, steps, steps[-1].time if steps else book.last_time(), saved)
 
     def _check_form(self) -> None:
         """Raises Spoilt unless the tables are those of an index, before anything is asked of them, and LaterForm if a later version made
@@ -299,12 +313,7 @@ class IndexFile:
         self._form = form
 
     def _check_pages(self) -> None:
-        """Raises Spoilt if pages don't belong together, so that a step would put one in another's place. A large file isn't looked
-        through."""
-        if self._asked("PRAGMA page_count") <= _FEW_PAGES:
-            self._check_all_pages()
-
-    def _check_all_pages(self) -> None:
+        """Raises Spoilt if pages don't belong together, so that a step would put one in another's place."""
         found = self._asked("PRAGMA integrity_check(1)")
         if found != b"ok":
             raise Spoilt(0, found.decode(errors="replace") if isinstance(found, bytes) else found)
@@ -329,7 +338,8 @@ class IndexFile:
             if run(PUT_STATE, (*state.sealed(), self.noted.state.version)).rowcount != 1:
                 raise NotKept(STALE)
             for statement, rows in writes:
-                self._cursor.executemany(statement, rows)
+                # (most steps come alone, with nothing else)
+                self._cursor.executemany(statement, rows) if len(rows) != 1 else run(statement, rows[0])
             self._unsure = state.version
             run("COMMIT")
             self._note(noted)
@@ -381,7 +391,7 @@ class IndexFile:
     def _write_over(self) -> None:
         """Writes over a step in the log. If that is refused too, the file is closed."""
         try:
-            state = self.noted.state._replace(version=new_version())
+            state = self.noted.state._replace(version=next(self.versions))
             self._run("BEGIN IMMEDIATE")
             # (another process that wrote meanwhile has done it)
             if self._run(PUT_STATE, (*state.sealed(), self.noted.state.version)).rowcount == 1:
@@ -402,8 +412,9 @@ class IndexFile:
             self._expect_same()
             if self._asked("SELECT version FROM s2ix_state") != self.noted.state.version:
                 raise NotKept(STALE)
-            self._is_lent = True
-            self._connection.set_authorizer(_authorized)
+            self._is_lent, self._guard = True, Guard(self._connection)
+            self._connection.set_authorizer(self._guard.authorized)
+            self._connection.set_trace_callback(self._guard.begun)
             self._connection.text_factory = str
             return self._connection
         except BaseException as raised:
@@ -419,9 +430,15 @@ class IndexFile:
     def _take_connection(self) -> None:
         """Lets the index write again."""
         self._connection.set_authorizer(_ALL_AUTHORIZED)
+        self._connection.set_trace_callback(None)
         self._connection.text_factory = bytes
         self._connection.row_factory = None
         self._is_lent = False
+
+    def expect_uninterrupted(self) -> None:
+        """Raises KeyboardInterrupt if an interrupt came while SQLite asked about a caller's statement."""
+        if self._guard is not None:
+            self._guard.expect_ended()
 
     def _expect_transaction(self) -> None:
         """Raises NotKept if a caller ended the transaction, or gave a table a name of the index's own."""
@@ -507,13 +524,43 @@ _ENDS = sqlite3.SQLITE_TRANSACTION, sqlite3.SQLITE_ATTACH, sqlite3.SQLITE_DETACH
 _ALL_AUTHORIZED: Any = None if sys.version_info >= (3, 11) else lambda *_: sqlite3.SQLITE_OK
 
 
-def _authorized(action: int, first: Optional[str], second: Optional[str], *_: Optional[str]) -> int:
-    """What SQLite is told of a part of a caller's statement: it may neither end the transaction nor write to what is the index's own."""
-    if action in _READS:
-        return sqlite3.SQLITE_OK
-    is_own = any(name is not None and name.lower().startswith("s2ix_") for name in (first, second))
-    is_setting = action == sqlite3.SQLITE_PRAGMA and second is not None and first not in _QUESTIONS
-    return sqlite3.SQLITE_DENY if is_own or is_setting or action in _ENDS else sqlite3.SQLITE_OK
+class Guard:
+    """What SQLite asks about a caller's statements. sqlite3 drops what is raised in such a call, as by Ctrl-C. The caches count the calls
+    before they begin, so one that did not end shows."""
+
+    def __init__(self, connection: sqlite3.Connection) -> None:
+        self._connection = connection
+        #: What SQLite asks of a part of a statement, and what it tells when one begins.
+        self.authorized, self.begun = lru_cache(maxsize=None)(self._authorize), lru_cache(maxsize=0)(self._begin)
+        self._ended = 0
+
+    def expect_ended(self) -> None:
+        """Raises KeyboardInterrupt, once, if a call did not end."""
+        cut_off = self._cut_off()
+        self._ended += cut_off
+        if cut_off:
+            raise KeyboardInterrupt("it came within a statement of SQL")
+
+    def _cut_off(self) -> int:
+        """How many calls have begun and did not end."""
+        return self.authorized.cache_info().misses + self.begun.cache_info().misses - self._ended
+
+    def _authorize(self, action: int, first: Optional[str], second: Optional[str], *_: Optional[str]) -> int:
+        """What a part of a statement may do: it may neither end the transaction nor write to what is the index's own."""
+        is_own = any(name is not None and name.lower().startswith("s2ix_") for name in (first, second))
+        is_setting = action == sqlite3.SQLITE_PRAGMA and second is not None and first not in _QUESTIONS
+        is_refused = action not in _READS and (is_own or is_setting or action in _ENDS)
+        # (this call has begun)
+        is_refused = is_refused or self._cut_off() > 1
+        self._ended += 1
+        return sqlite3.SQLITE_DENY if is_refused else sqlite3.SQLITE_OK
+
+    def _begin(self, _: str) -> None:
+        """Stops a statement that begins after another one rolled the transaction back, as INSERT OR ROLLBACK may: what it writes would be
+        there without the step. So is one after an interrupt."""
+        if not self._connection.in_transaction or self._cut_off() > 1:
+            self._connection.interrupt()
+        self._ended += 1
 
 
 def _remove(room: str) -> None:

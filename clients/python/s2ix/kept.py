@@ -2,21 +2,37 @@
 from __future__ import annotations
 
 import time
+import zlib
 from functools import partial
-from typing import Iterable, NamedTuple, Optional
+from typing import NamedTuple, Optional, Sequence
 
 from s2ix.apart import Apart
 from s2ix.book import Start, is_change
 from s2ix.form import (
-    HEAD, PUT_LABEL, PUT_SAVED, NotKept, Noted, Saved, Spoilt, State, Step, Undone, Write, new_version, runs_of, step_writes,
+    HEAD, PUT_SAVED, PUT_STEP, NotKept, Noted, Saved, Spoilt, State, Step, Undone, Write, listing_of, runs_of,
+    shortening_writes, step_after,
 )
 from s2ix.index import Index
 from s2ix.index_file import Found, IndexFile
 from s2ix.refusals import Closed, NoDump, NoJournal, NoLimits, OutOfMemory, S2ixError
+from s2ix.rows import text_of as text_in
 
 _END = "end 1\n"
-# How many bytes a step counts for beside its change, and how many bytes of steps there are at least between two saved states.
-_OF_A_STEP, _FEW_BYTES = 32, 65_536
+# How many bytes a step counts for beside its change; how many bytes of steps there are at least between two saved states, and for each
+# change that can be undone; and how many bytes of them wait at most until their labels and cells are listed, since that costs less for many
+# steps at once.
+_OF_A_STEP, _FEW_BYTES, _OF_A_CHANGE, _MOST_WAITING = 32, 65_536, 4, 32_768
+
+
+# (a call of a class of named tuples takes longer)
+_new = tuple.__new__
+
+
+class Cut(NamedTuple):
+    """Where the log is made shorter: the state from which it goes on, and the sum of the listed rows of later steps."""
+
+    start: Saved
+    listed_sum: int
 
 
 class Words(NamedTuple):
@@ -91,26 +107,33 @@ class Kept(Apart):
 
     def _take_news(self, found: Found) -> None:
         """Goes in memory to what the file holds, and notes it."""
-        noted = self._file.noted if found.start is None else self._started(found.start, found.state)
-        self._file.noted = self._followed(noted, found.steps)._replace(state=found.state)
+        noted = self._file.noted
+        unlisted, waiting = _unlisted(noted, found)
+        if found.start is not None:
+            noted = self._started(found.start, found.state)
+        noted = self._followed(noted, found.steps)
+        if found.saved is not None:
+            since = sum(_weight(step) for step in found.steps if step.id > found.saved.step)
+            noted = noted._replace(since=since, size=_size(found.saved))
+        self._file.noted = noted._replace(state=found.state, unlisted=unlisted, waiting=waiting, time=found.time)
 
     def _started(self, start: Start, state: State) -> Noted:
         """Goes in memory to a saved state."""
         saved, limits = start.saved, state.limits()
-        _expect_changes(start.changes.items())
-        changes = [start.changes[each] for each in start.standing]
+        _expect_changes(start.standing, start.done)
+        _expect_changes(start.undone, start.redoable)
         try:
-            self._edited(self._lead, "s2ix_resume", saved.dump.encode(), _journal_of(changes).encode(), *limits)
+            self._edited(self._lead, "s2ix_resume", saved.dump.encode(), _journal_of(start.done).encode(), *limits)
         except (NoDump, NoLimits) as refusal:
             raise Spoilt(0, refusal) from refusal
         except (Closed, OutOfMemory):
             raise
         except S2ixError as refusal:
-            raise _spoilt_by(refusal, start.standing, changes) from refusal
-        undone = [(each, start.changes[each]) for each in start.undone]
-        self._do(undone)
-        for _ in undone:
+            raise _spoilt_by(refusal, start.standing, start.done) from refusal
+        self._do(start.undone, start.redoable)
+        for _ in start.undone:
             super().undo()
+        undone = [*zip(start.undone, start.redoable)]
         return Noted(state, start.standing, len(start.standing), undone[::-1], 0, _size(saved))
 
     def _followed(self, noted: Noted, steps: list[Step]) -> Noted:
@@ -130,7 +153,7 @@ class Kept(Apart):
 
     def _made_again(self, noted: Noted, steps: list[Step]) -> Noted:
         """Makes changes that others made."""
-        self._do([(step.id, step.change or "") for step in steps])
+        self._do([step.id for step in steps], [step.change or "" for step in steps])
         noted.standing[noted.many :] = [step.id for step in steps]
         return noted._replace(many=len(noted.standing), undone=[])
 
@@ -177,21 +200,29 @@ class Kept(Apart):
         super().forget_older(len(standing))
         return noted._replace(standing=standing, many=len(standing))
 
-    def _do(self, changes: list[tuple[int, str]]) -> None:
+    def _do(self, ids: list[int], changes: list[str]) -> None:
         """Does changes of some steps, or tells which of them is wrong."""
         if not changes:
             return
-        _expect_changes(changes)
+        _expect_changes(ids, changes)
         try:
-            super().apply(_journal_of([change for _, change in changes]))
+            super().apply(_journal_of(changes))
         except (Closed, OutOfMemory):
             raise
         except S2ixError as refusal:
-            raise _spoilt_by(refusal, [number for number, _ in changes], [change for _, change in changes]) from refusal
+            raise _spoilt_by(refusal, ids, changes) from refusal
 
     def _last_change(self, done: int) -> str:
         """The lines of the last of so many changes within a journal."""
         return Index.journal(self, done)[len(HEAD) : -len(_END)]
+
+    def _changes_after(self, many: int) -> list[str]:
+        """The lines of each change after so many of the first."""
+        text = self._listed(self._calls.s2ix_journal_from, 1, text_in, many + 1)
+        if text.endswith(_END):
+            return [text[len(HEAD) : -len(_END)]]
+        _, *changes = text[: text.rindex("end ")].split("change ")
+        return [f"change {lines}" for lines in changes]
 
     # How steps are kept.
 
@@ -200,29 +231,45 @@ class Kept(Apart):
         return Words(text_of(note, "a note"), self._who if who is None else text_of(who, "who"))
 
     def _put(
-        self, kind: str, words: Words, changes: list[Optional[str]], standing: list[int], many: int, undone: list[Undone], *,
-        of: Optional[int] = None, dump: Optional[str] = None, label: Optional[int] = None, more: list[Write] = [],
+        self, kind: str, words: Words, changes: Sequence[Optional[str]], standing: list[int], many: int, undone: list[Undone], *,
+        of: Optional[int] = None, dump: Optional[str] = None, label: Optional[int] = None, cut: Optional[Cut] = None,
     ) -> None:
         """Makes steps of some changes one transaction, with what can be undone and redone then; after it these are noted. Given a dump, the
-        state is saved too, and else if it's time for that. A label is noted with the last step. If the file refuses it, it is as it was,
-        and NotKept is raised."""
+        state is saved too, and else if it's time for that. A label is listed with the last step. With a cut the log goes on from there. If
+        the file refuses it, it is as it was, and NotKept is raised."""
         noted = self._file.noted
-        last, tip = noted.state.last, noted.state.tip
-        made, writes, since = time.time_ns() // 1000, [*more], noted.since
+        _, last, tip, saved, listed, listed_sum, pairs, copies, most = noted.state
+        steps, weight, made = [], 0, max(time.time_ns() // 1000, noted.time)
         for change in changes:
             last += 1
-            step = Step(last, made, words.who, words.note, kind, of, change).sealed_after(tip)
-            tip, since = step.seal, since + _weight(step)
-            writes += step_writes(step)
-        if label is not None:
-            writes.append((PUT_LABEL, [(label, last)]))
-        saved, size = noted.state.saved, noted.size
-        if dump is not None or since > max(2 * size, _FEW_BYTES):
-            state = _saved(last, tip, standing[:many], undone, super().dump() if dump is None else dump)
-            writes.append((PUT_SAVED, (state,)))
-            saved, size, since = state.seal, _size(state), 0
-        after = State(new_version(), last, tip, saved, *noted.state.limits())
-        self._write(writes, Noted(after, standing, many, undone, since, size))
+            step = step_after(tip, last, made, words.who, words.note, kind, of, change)
+            steps.append(step)
+            tip, weight = step.seal, weight + _weight(step)
+        writes: list[Write] = [(PUT_STEP, steps)]
+        unlisted, since, waiting, size = noted.with_unlisted(steps), noted.since + weight, noted.waiting + weight, noted.size
+        # (without a step the state may be saved already)
+        if dump is not None or steps and since > max(2 * size, _FEW_BYTES, _OF_A_CHANGE * many):
+            start = self._saved(last, tip, standing[:many], undone, super().dump() if dump is None else dump)
+            writes.append((PUT_SAVED, [start]))
+            saved, size, since, waiting = start.seal, _size(start), 0, _MOST_WAITING
+        if cut is not None:
+            writes[:0] = shortening_writes(cut.start)
+            unlisted, listed_sum = [step for step in unlisted if step.id > cut.start.step], cut.listed_sum
+        if label is not None or waiting >= _MOST_WAITING:
+            listing, added = listing_of(unlisted, () if label is None else [(label, last)])
+            writes += listing
+            listed, listed_sum, unlisted, waiting = last, listed_sum + added, [], 0
+        after = _new(State, (next(self._file.versions), last, tip, saved, listed, listed_sum, pairs, copies, most))
+        # (without a step the log has no time from now)
+        made = made if steps else noted.time
+        self._write(writes, _new(Noted, (after, standing, many, undone, since, size, unlisted, waiting, made)))
+
+    def _saved(self, last: int, tip: int, standing: list[int], undone: list[Undone], dump: str) -> Saved:
+        """The state after a step, when the newest changes are those that can be undone."""
+        text = self._listed(self._calls.s2ix_journal_from, 1, text_in, self._done() - len(standing) + 1)
+        changes = [text[len(HEAD) : text.rindex("end ")], *(change for _, change in reversed(undone))]
+        ids = runs_of(standing), runs_of(number for number, _ in reversed(undone))
+        return Saved(last, tip, *ids, zlib.crc32("".join(changes).encode()), dump).sealed()
 
     def _write(self, writes: list[Write], noted: Noted) -> None:
         # (unless it is done or refused, the file may have it)
@@ -250,7 +297,7 @@ class Kept(Apart):
         while self._done() < many:
             super().redo()
         if is_over and undone:
-            self._do(undone[::-1])
+            self._do([number for number, _ in reversed(undone)], [change for _, change in reversed(undone)])
             for _ in undone:
                 super().undo()
 
@@ -259,13 +306,12 @@ def _journal_of(changes: list[str]) -> str:
     return f"{HEAD}{''.join(changes)}end {len(changes)}\n"
 
 
-def _expect_changes(changes: Iterable[tuple[int, str]]) -> None:
+def _expect_changes(ids: list[int], changes: list[str]) -> None:
     """Raises Spoilt for the first of some steps that has no lines of one change."""
-    kept = list(changes)
     # (one look at all of them is quicker, and the library refuses what it leaves)
-    if all(change for _, change in kept) and "".join(change for _, change in kept).count("change ") == len(kept):
+    if all(changes) and "".join(changes).count("change ") == len(changes):
         return
-    for number, change in kept:
+    for number, change in zip(ids, changes):
         if not change.startswith("change ") or not change.endswith("\n") or change.count("change ") != 1:
             raise Spoilt(number, "it is no change")
 
@@ -274,12 +320,17 @@ def _weight(step: Step) -> int:
     return _OF_A_STEP + len(step.change or "")
 
 
+def _unlisted(noted: Noted, found: Found) -> tuple[list[Step], int]:
+    """The steps that aren't listed in what a file holds, and their bytes."""
+    if found.start is None and found.state.listed == noted.state.listed:
+        return noted.with_unlisted(found.steps), noted.waiting + sum(map(_weight, found.steps))
+    known = found.steps if found.start is not None else noted.with_unlisted(found.steps)
+    left = [step for step in known if step.id > found.state.listed]
+    return left, sum(map(_weight, left))
+
+
 def _size(saved: Saved) -> int:
     return len(saved.dump) + len(saved.standing) + len(saved.undone)
-
-
-def _saved(last: int, tip: int, standing: list[int], undone: list[Undone], dump: str) -> Saved:
-    return Saved(last, tip, runs_of(standing), runs_of(number for number, _ in reversed(undone)), dump).sealed()
 
 
 def undone_after(undone: list[Undone], last: int) -> list[Undone]:

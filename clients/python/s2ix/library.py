@@ -4,6 +4,7 @@ from __future__ import annotations
 import ctypes
 import ctypes.util
 import functools
+import importlib
 import os
 import sysconfig
 import threading
@@ -12,7 +13,10 @@ from ctypes import c_uint8 as u8
 from ctypes import c_uint32 as u32
 from ctypes import c_uint64 as u64
 from ctypes import c_void_p as address
-from typing import Any, Callable
+from typing import TYPE_CHECKING, Any, Callable, Optional
+
+if TYPE_CHECKING:
+    from s2ix._quick import Asker
 
 
 class Handle(ctypes.Structure):
@@ -37,6 +41,12 @@ class PackedLabel(ctypes.Structure):
     """A label that is held, with its pairs and copies, as it lies in a buffer."""
 
     _fields_ = [("label", u32), ("pairs", u32), ("copies", u64)]
+
+
+class PackedRange(ctypes.Structure):
+    """A range of leaves, as it lies in a buffer."""
+
+    _fields_ = [("start", u64), ("limit", u64), ("is_empty", ctypes.c_bool)]
 
 
 class Square(ctypes.Structure):
@@ -97,6 +107,7 @@ CALLS = {
     "s2ix_range_count": [address, address],
     "s2ix_find": [address, u64, address, address, address],
     "s2ix_range": [address, size, address, address, address],
+    "s2ix_ranges": [address, size, address, size, address],
     "s2ix_contents": [address, size, u64, address, size, address],
     "s2ix_next_full": [address, size, address],
     "s2ix_previous_full": [address, size, address],
@@ -143,6 +154,8 @@ ANSWERS = {
 }
 #: The calls for many leaves or targets, which may take long.
 LONG = ("s2ix_at_each", "s2ix_labels_at_each", "s2ix_meet_each", "s2ix_labels_each")
+#: The calls of single questions, in the order in which an Asker takes them.
+SINGLE = ("s2ix_at", "s2ix_meet", "s2ix_labels", "s2ix_count")
 
 
 def places() -> list[str]:
@@ -180,6 +193,35 @@ def load_unlocked() -> Any:
         call = getattr(library, name)
         call.argtypes, call.restype = CALLS[name], u32
     return library
+
+
+def is_quick() -> bool:
+    """Whether indexes that are opened now ask single questions by the module `_quick`, which takes a quarter to a half of the time of `ctypes`.
+    They do if the package has it, S2IX_NO_QUICK isn't set, and this Python has a GIL."""
+    return _quick() is not None and has_gil()
+
+
+@functools.lru_cache(maxsize=None)
+def _quick() -> Any:
+    """The module, or None."""
+    try:
+        return None if os.environ.get("S2IX_NO_QUICK") else importlib.import_module("s2ix._quick")
+    except ImportError:
+        return None
+
+
+def asker_of(handle: Handle, row: type[tuple[int, ...]]) -> Optional[Asker]:
+    """What asks single questions about a handle, and makes rows of a class; None if `ctypes` asks them."""
+    if not is_quick():
+        return None
+    asker: Asker = _quick().Asker(handle, ctypes.addressof(handle), row, *_addresses())
+    return asker
+
+
+@functools.lru_cache(maxsize=None)
+def _addresses() -> list[int]:
+    """Where the calls of single questions lie."""
+    return [ctypes.cast(load()[name], address).value or 0 for name in SINGLE]
 
 
 def of_a_handle() -> Any:

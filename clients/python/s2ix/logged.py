@@ -2,6 +2,7 @@
 from __future__ import annotations
 
 import operator
+import re
 from datetime import datetime, timedelta, timezone
 from typing import Callable, NamedTuple, Optional, TypeVar, Union
 
@@ -45,7 +46,8 @@ class Log(Kept):
         before: Optional[Moment] = None, newest_first: bool = False, most: Optional[int] = None,
     ) -> list[Logged]:
         """The steps in the log, the oldest first: all, or those that changed counts of a label, or of cells that overlap a cell, or that
-        somebody made, from a step or time on, and before another; at most so many. A step is its id, a time a datetime with its zone. The
+        somebody made, from a step or time on, and before another; at most so many. A step is its id, a time a datetime with its zone. No
+        step is earlier than the one before it: if the clock was set back, it has the time of that one until the clock has caught up. The
         next page of the newest first is `before=page[-1].id`. O(log n + k) for k steps, but with `cell` O(log n + c) for c steps of such
         cells. Raises Closed, NoLabel, NoCell, sqlite3.Error, Spoilt, and RuntimeError within a step."""
         number = None if label is None else check(label, MOST_LABEL, NoLabel)
@@ -68,9 +70,9 @@ class Log(Kept):
 
     def as_of(self, moment: Moment) -> Index:
         """An index of what was held after a step, by its id (0: before the first), or at a time, by a datetime with its zone: a copy, under
-        the same limits, with nothing to undo or redo. If the clock was set back, a time is that of one of the moments that had it. O(n + m)
-        for n pairs and the m entries of the steps since the state that was saved last before. Raises Closed, NoSuchChange if the log
-        doesn't reach to it, sqlite3.Error, Spoilt, OutOfMemory, and RuntimeError within a step."""
+        the same limits, with nothing to undo or redo. O(n + m) for n pairs and the m entries of the steps since the state that was saved last
+        before. Raises Closed, NoSuchChange if the log doesn't reach to it, sqlite3.Error, Spoilt, OutOfMemory, and RuntimeError within a
+        step."""
         asked = asked_for(moment)
         return self._read_log(lambda book: _index_at(book, asked))
 
@@ -82,20 +84,21 @@ class Log(Kept):
         self._done()
         return self._file.reading(ask)
 
-    def _label_before(self, book: Book, label: int, before: int, held: dict[int, int]) -> dict[int, int]:
-        """The counts of a label's cells before a step, from those that it has now."""
-        wanted = dict(held)
+    def _label_before(self, book: Book, label: int, before: int) -> dict[int, int]:
+        """The counts of a label's cells before a step."""
         if book.state().version != self._file.noted.state.version:
             raise NotKept(STALE)
-        if book.step(before).id != before:
-            raise NoSuchChange
-        for step, _ in book.listed(Asked(label, None, None, before, _MOST, True, _MOST)):
-            for each in _entries_of(step):
-                if each.label == label:
-                    if wanted.get(each.cell, 0) != each.after:
-                        raise Spoilt(step.id, "what the label had then is not what it has now, less later steps")
-                    wanted[each.cell] = each.before
-        return wanted
+        book.step(before)
+        saved, word = book.saved(before - 1), f" {label} "
+        held = {cell_of(token): int(count) for token, count in re.findall(f"^([0-9a-f]+){word}([0-9]+)$", saved.dump, re.M)}
+        for step in book.steps(saved.step, saved.tip, before - 1):
+            if step.change is not None and word in step.change:
+                for each in _entries_of(step):
+                    if each.label == label:
+                        if held.get(each.cell, 0) != each.before:
+                            raise Spoilt(step.id, "another count was held then")
+                        held[each.cell] = each.after
+        return held
 
 
 def asked_for(moment: Optional[Moment]) -> Union[int, datetime, None]:
@@ -157,7 +160,11 @@ def _index_at(book: Book, asked: Union[int, datetime, None]) -> Index:
     saved = book.saved(last)
     if isinstance(asked, datetime) and last == book.first() and last:
         raise NoSuchChange("the log begins later")
-    return Index.replay(saved.dump, _net(book.steps(saved.step, saved.tip, last)), *state.limits())
+    steps = book.steps(saved.step, saved.tip, last)
+    found, tip = (steps[-1].id, steps[-1].seal) if steps else (saved.step, saved.tip)
+    if found != last:
+        book.expect_whole(last, tip)
+    return Index.replay(saved.dump, _net(steps), *state.limits())
 
 
 def _net(steps: list[Step]) -> str:
@@ -186,4 +193,7 @@ def cut_at(book: Book, before: Union[int, datetime]) -> Optional[Saved]:
     if last <= book.first():
         return None
     with _index_at(book, last) as index:
-        return Saved(last, book.tip_at(last), "", "", index.dump()).sealed()
+        tip = book.tip_at(last)
+        # (the next step goes on from this state)
+        book.expect_whole(last, tip)
+        return Saved(last, tip, "", "", 0, index.dump()).sealed()

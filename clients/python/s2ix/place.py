@@ -28,7 +28,7 @@ class Place:
         self._is_fixed = False
         # The folder, if the path has no link, and how it was when it had been still for a while.
         self._folder = os.path.dirname(self.real) if self.real == os.path.normpath(self.given) else ""
-        self._settled: Optional[tuple[int, int]] = None
+        self._settled: Optional[tuple[int, int, int]] = None
 
     def address(self, mode: str) -> str:
         """How SQLite is told the file, to open it in a mode."""
@@ -75,7 +75,7 @@ class Place:
         """What differs from what was seen, or nothing. While no entry of the folder changes nothing can, and one look is cheaper than
         three."""
         folder = _entries(self._folder)
-        if folder == self._settled and folder is not None:
+        if folder is not None and folder == self._settled:
             return ""
         now, (file, kept) = time.time_ns(), self._look()
         if self.file is None:
@@ -88,7 +88,7 @@ class Place:
                 was = "replaced" if kept[name] else "deleted"
                 return f"its {name} {self._beside[name]} was {was}: open the index in another process"
         self._kept = kept
-        if folder is not None and None not in kept.values() and not self._is_fixed and _is_still(folder[1], now):
+        if folder is not None and None not in kept.values() and not self._is_fixed and all(_is_still(changed, now) for changed in folder[1:]):
             self._settled = folder
         return ""
 
@@ -100,13 +100,14 @@ def _size(path: str) -> int:
         return 0
 
 
-def _entries(folder: str) -> Optional[tuple[int, int]]:
-    """What tells whether an entry of a folder has changed; None without a folder."""
+def _entries(folder: str) -> Optional[tuple[int, int, int]]:
+    """What tells whether an entry of a folder has changed; None without a folder. (Anybody can set the first time back, as `cp -a` and
+    `rsync -a` do, and nobody the second.)"""
     try:
         found = os.stat(folder)
     except OSError:
         return None
-    return found.st_ino, found.st_mtime_ns
+    return found.st_ino, found.st_mtime_ns, found.st_ctime_ns
 
 
 def _is_still(changed: int, now: int) -> bool:
@@ -120,7 +121,7 @@ def _identity(path: str, is_fixed: bool = False) -> Optional[tuple[int, ...]]:
         found = os.stat(path)
     except OSError:
         return None
-    return (*found[1:3], found.st_size, found.st_mtime_ns) if is_fixed else found[1:3]
+    return (*found[1:3], found.st_size, found.st_mtime_ns, found.st_ctime_ns) if is_fixed else found[1:3]
 
 
 # For the file of each connection that SQLite never closes, why this process can't open it again.

@@ -8,8 +8,8 @@ from typing import Callable, NamedTuple
 
 from s2ix import library
 
-# How many bytes a packed row has, a packed entry, a cell, a label, and a packed label with its pairs and copies.
-PACKED, ENTRY, WORD, HALF, HELD = 16, 24, 8, 4, 16
+# How many bytes a packed row has, a packed entry, a cell, a label, a packed label with its pairs and copies, and a packed range.
+PACKED, ENTRY, WORD, HALF, HELD, RANGE = 16, 24, 8, 4, 16, 24
 
 
 class Row(NamedTuple):
@@ -50,7 +50,7 @@ class Range(NamedTuple):
 row_in, _rows_in = struct.Struct("=QII").unpack_from, struct.Struct("=QII").iter_unpack
 new_row: Callable[[type[Row], tuple[int, ...]], Row] = tuple.__new__
 _row_of: Callable[[tuple[int, ...]], Row] = functools.partial(new_row, Row)
-_entries_in, _held_in = struct.Struct("=QIII4x").iter_unpack, struct.Struct("=IIQ").iter_unpack
+_entries_in, _held_in, _ranges_in = (struct.Struct(each).iter_unpack for each in ("=QIII4x", "=IIQ", "=QQ?7x"))
 
 
 def rows_of(packed: memoryview) -> list[Row]:
@@ -69,6 +69,11 @@ def entries_of(packed: memoryview) -> list[Entry]:
 
 def held_of(packed: memoryview) -> list[HeldLabel]:
     return list(map(HeldLabel._make, _held_in(packed)))
+
+
+def ranges_of(packed: memoryview) -> list[tuple[int, int, bool]]:
+    """The start and the limit of each packed range, and whether it is empty."""
+    return [(start, limit, is_empty) for start, limit, is_empty in _ranges_in(packed)]
 
 
 def labels_of(packed: memoryview) -> list[int]:
