@@ -54,8 +54,8 @@ def shown_at(path, names):
 def places(word):
     """Pairs of a crate above ids, or the folder `tests`, and what its files have: each file with the names of what has a line."""
     groups = {crate: files_of(crate) for crate in workspace.CRATES if crate.startswith("s2ix")}
-    groups["tests"] = [os.path.relpath(path, workspace.TOP) for path in sorted(glob.glob(f"{workspace.TOP}/tests/*")) if path.endswith(".py") or "." not in os.path.basename(path)]
-    groups["tests"] = [path for path in groups["tests"] if os.path.isfile(f"{workspace.TOP}/{path}")]
+    groups["tests"] = [os.path.relpath(path, workspace.TOP) for path in sorted(glob.glob(f"{workspace.TOP}/tests/**", recursive=True))]
+    groups["tests"] = [path for path in groups["tests"] if os.path.isfile(f"{workspace.TOP}/{path}") and re.search(r"\.py$|/[^.]+$", path)]
     for group, paths in groups.items():
         shown = [shown_at(path, names) for path in paths for names in [names_in(path, word)] if names]
         if shown:

@@ -113,7 +113,7 @@ class Mender {
 
   Polygon Combined(S2BooleanOperation::OpType type, const S2Polygon& one, const S2Polygon& other) {
     Polygon result = NoPolygon();
-    S2BooleanOperation::Options options(s2builderutil::IdentitySnapFunction(S2::kIntersectionMergeRadius));
+    const S2BooleanOperation::Options options{s2builderutil::IdentitySnapFunction(S2::kIntersectionMergeRadius)};
     S2BooleanOperation operation(type, LayerTo(result.get(), S2Builder::EdgeType::DIRECTED), options);
     S2Error error;
     if (!operation.Build(one.index(), other.index(), &error)) Refuse(S2IX_FAULT_UNSOUND, 0, 0);

@@ -83,6 +83,29 @@ void CheckCoverings(Random* random, const Pair& pair) {
   Check(beyond == 0, "the inner covering has " + std::to_string(beyond) + " points or cells outside");
 }
 
+// Which cells of an outer covering, and of their children, lie within a shape, beside S2's polygon and points of these cells.
+void CheckWithin(Random* random, const Pair& pair) {
+  std::vector<uint64_t> cells = Cells(s2ix_shape_cover, pair.shape.get(), 20, 0, 28);
+  for (size_t at = 0, outer = cells.size(); at < outer; at++) {
+    cells.push_back(S2CellId(cells[at]).child(static_cast<int>(random->Below(4))).id());
+  }
+  const auto inside = std::make_unique<bool[]>(cells.size());
+  size_t wrong = 9;
+  Check(s2ix_shape_has_each(pair.shape.get(), cells.data(), cells.size(), inside.get(), &wrong) == S2IX_PLACES_DONE && wrong == 0,
+        "cells are looked at");
+  size_t unlike = 0, outside = 0;
+  for (size_t at = 0; at < cells.size(); at++) {
+    const S2CellId cell(cells[at]);
+    unlike += inside[at] != pair.polygon->Contains(S2Cell(cell));
+    for (int point = 0; inside[at] && point < 20; point++) {
+      const S2CellId leaf = cell.child_begin(S2CellId::kMaxLevel).advance(static_cast<int64_t>(random->Below(cell.lsb())));
+      outside += !pair.polygon->Contains(leaf.ToPoint());
+    }
+  }
+  Check(unlike == 0, std::to_string(unlike) + " cells lie otherwise within a shape than S2 says");
+  Check(outside == 0, std::to_string(outside) + " points of cells within a shape are outside");
+}
+
 void CheckLevels() {
   const Shape box = Sound(Given().Ring(Box(8, 47, 9, 48)), "a box to cover");
   for (uint32_t level : {5u, 8u, 11u}) {
@@ -241,7 +264,11 @@ void CheckOutlines() {
 
 void CoversShapes() {
   Random random(5);
-  for (int at = 0; at < 60; at++) CheckCoverings(&random, Stars(&random, 3 + static_cast<int>(random.Below(40))));
+  for (int at = 0; at < 60; at++) {
+    const Pair pair = Stars(&random, 3 + static_cast<int>(random.Below(40)));
+    CheckCoverings(&random, pair);
+    CheckWithin(&random, pair);
+  }
   CheckLevels();
 }
 

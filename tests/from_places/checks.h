@@ -191,6 +191,6 @@ void RefusesSets();
 void CutsOutlines();
 void UsesTheCppHeader();
 void RefusesWhatIsWrong();
-void SurvivesMutants(int mutants);
+void SurvivesMutants(size_t mutants);
 
 #endif

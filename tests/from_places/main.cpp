@@ -17,7 +17,7 @@ int main(int words, char** word) {
   UsesTheCppHeader();
   RefusesWhatIsWrong();
   RefusesSets();
-  SurvivesMutants(words > 1 ? std::atoi(word[1]) : 20'000);
+  SurvivesMutants(words > 1 ? std::strtoul(word[1], nullptr, 10) : 20'000);
   std::printf("%zu passed, %zu failed\n", passed, failed);
   return failed > 0;
 }

@@ -1,8 +1,6 @@
-// Bad input: pointers, counts, limits, points, cells and buffers that are wrong, and mutants of sound rings.
-#include <algorithm>
+// Bad input: pointers, counts, limits, points, cells and buffers that are wrong.
 #include <cmath>
 #include <limits>
-#include <thread>
 
 #include "checks.h"
 
@@ -70,6 +68,20 @@ void RefusesCoverings() {
   Check(s2ix_shape_cover(box.get(), 8, 30, 30, cells, 3, &number) == S2IX_PLACES_TOO_FINE && number == 0, "a box in leaves");
   const Shape thin = Sound(Given().Ring({{0, 0}, {90, 0}, {90, 1e-9}}), "a sliver");
   Check(s2ix_shape_cover(thin.get(), 8, 30, 30, cells, 3, &number) == S2IX_PLACES_TOO_FINE, "a sliver in leaves");
+}
+
+void RefusesCells() {
+  const Shape box = Sound(Given().Ring(Box(0, 0, 10, 10)), "a box");
+  const uint64_t face = 0x1000000000000000, cells[] = {face, 0};
+  bool inside[] = {true, true};
+  size_t wrong = 9;
+  Check(s2ix_shape_has_each(box.get(), cells, 2, inside, &wrong) == S2IX_PLACES_NO_CELL && wrong == 1 && inside[0], "a number of no cell");
+  Check(s2ix_shape_has_each(box.get(), cells, 1, inside, &wrong) == S2IX_PLACES_DONE && wrong == 0 && !inside[0], "a face isn't in a box");
+  Check(s2ix_shape_has_each(box.get(), nullptr, 0, nullptr, &wrong) == S2IX_PLACES_DONE, "no cells are asked for");
+  Check(s2ix_shape_has_each(nullptr, cells, 1, inside, &wrong) == S2IX_PLACES_NO_POINTER, "no shape");
+  Check(s2ix_shape_has_each(box.get(), nullptr, 1, inside, &wrong) == S2IX_PLACES_NO_POINTER, "no cells");
+  Check(s2ix_shape_has_each(box.get(), cells, 1, nullptr, &wrong) == S2IX_PLACES_NO_POINTER, "nowhere for the answers");
+  Check(s2ix_shape_has_each(box.get(), cells, 1, inside, nullptr) == S2IX_PLACES_NO_POINTER, "nowhere for the wrong one");
 }
 
 void RefusesPoints() {
@@ -162,105 +174,13 @@ void TellsInWords() {
   }
 }
 
-double Mutant(Random* random, double number) {
-  switch (random->Below(12)) {
-    case 0: return std::numeric_limits<double>::quiet_NaN();
-    case 1: return random->Below(2) ? HUGE_VAL : -HUGE_VAL;
-    case 2: return 5e-324;
-    case 3: return -2.2e-308;
-    case 4: return random->Between(-1, 1) * 1e308;
-    case 5: return random->Below(2) ? 90 : -90;
-    case 6: return random->Below(2) ? 180 : -180;
-    case 7: return std::nextafter(number, 0);
-    case 8: return -number;
-    case 9: return 0;
-    case 10: return number + random->Between(-1e-13, 1e-13);
-    default: return random->Between(-200, 200);
-  }
-}
-
-void Mutate(Random* random, Given* given) {
-  const size_t corners = given->latitudes.size(), at = random->Below(corners), other = random->Below(corners);
-  switch (random->Below(6)) {
-    case 0: given->latitudes[at] = Mutant(random, given->latitudes[at]); break;
-    case 1: given->longitudes[at] = Mutant(random, given->longitudes[at]); break;
-    case 2: std::swap(given->latitudes[at], given->longitudes[at]); break;
-    case 3: given->latitudes[at] = given->latitudes[other], given->longitudes[at] = given->longitudes[other]; break;
-    case 4: std::swap(given->latitudes[at], given->latitudes[other]), std::swap(given->longitudes[at], given->longitudes[other]); break;
-    default: given->longitudes[at] = 180 * (random->Below(2) ? 1 : -1); break;
-  }
-  // (a ring that stays closed comes further)
-  for (size_t ring = 0; ring < given->ring_ends.size() && random->Below(4); ring++) {
-    const size_t first = ring == 0 ? 0 : given->ring_ends[ring - 1], last = given->ring_ends[ring] - 1;
-    given->latitudes[last] = given->latitudes[first];
-    given->longitudes[last] = given->longitudes[first];
-  }
-}
-
-std::vector<Given> Seeds() {
-  Corners ring, belt;
-  for (int at = 0; at < 12; at++) ring.push_back({30 * at - 180, 70 + at % 3});
-  for (int at = -180; at <= 180; at += 45) belt.push_back({at, -60});
-  belt.push_back({180, -90});
-  belt.push_back({-180, -90});
-  return {Given().Ring(Box(10, 40, 20, 50)).Ring(Box(13, 43, 17, 47)).Next().Ring(Box(30, 40, 31, 41)),
-          Given().Ring({{170, -20}, {180, -20}, {180, -10}, {170, -10}}).Next().Ring({{-180, -20}, {-170, -20}, {-170, -10}, {-180, -10}}),
-          Given().Ring(ring), Given().Ring(belt), Given().Ring({{0, 0}, {1e-9, 0}, {1e-9, 1e-9}, {0, 1e-9}}),
-          Given().Ring({{0, 0}, {10, 10}, {10, 0}, {0, 10}})};
-}
-
-// Uses a shape that was read from a mutant in each call.
-void Use(const s2ix_shape* shape) {
-  Outline outline;
-  const uint32_t status = outline.Of(shape);
-  Check(status == S2IX_PLACES_DONE || status == S2IX_PLACES_WHOLE, "a mutant has an outline");
-  Cells(s2ix_shape_cover, shape, 8, 0, 30);
-  Cells(s2ix_shape_cover_inside, shape, 4, 0, 12);
-  Has(shape, 45, 15);
-  Outline cut;
-  Check(cut.Fill([shape](s2ix_rings_room* into) { return s2ix_shape_outline_cut(shape, into); }) == status, "a mutant's outline is cut");
-  s2ix_shape_set* set = nullptr;
-  const uint32_t number = 1;
-  const double latitudes[] = {45, 75, -15}, longitudes[] = {15, 15, 175};
-  size_t ends[3], len = 0;
-  uint32_t found[3];
-  Check(s2ix_shape_set_new(9, &set) == S2IX_PLACES_DONE && s2ix_shape_set_put(set, &number, &shape, 1) == S2IX_PLACES_DONE &&
-            s2ix_shape_set_at_each(set, latitudes, longitudes, 3, ends, found, 3, &len) == S2IX_PLACES_DONE, "a mutant is in a set");
-  for (size_t at = 0; at < 3; at++) {
-    Check(Has(shape, latitudes[at], longitudes[at]) == (ends[at] > (at == 0 ? 0 : ends[at - 1])), "a set answers as its mutant");
-  }
-  s2ix_shape_set_free(set);
-}
-
 }  // namespace
 
 void RefusesWhatIsWrong() {
   RefusesRings();
   RefusesCoverings();
+  RefusesCells();
   RefusesPoints();
   RefusesOutlines();
   TellsInWords();
-}
-
-void SurvivesMutants(int mutants) {
-  Random random(19);
-  const std::vector<Given> seeds = Seeds();
-  size_t sound = 0, mended = 0, refused = 0;
-  for (int at = 0; at < mutants; at++) {
-    Given given = seeds[random.Below(seeds.size())];
-    for (size_t left = 1 + random.Below(4); left > 0; left--) Mutate(&random, &given);
-    const Read plain = ReadShape(given), other = ReadShape(given, true);
-    const bool is_sound = plain.status == S2IX_PLACES_DONE, is_mended = other.status == S2IX_PLACES_DONE;
-    const bool is_told = is_sound ? plain.fault.kind == 0 && is_mended && other.fault.kind == 0
-                                  : plain.status == S2IX_PLACES_FAULTY && plain.fault.kind > 0 && (is_mended ||
-                                      other.status == S2IX_PLACES_FAULTY);
-    Check(is_told && (plain.shape != nullptr) == is_sound && (other.shape != nullptr) == is_mended, "a mutant is read or its fault told");
-    const std::vector<s2ix_fault> faults = FaultsOf(given);
-    Check(faults.empty() == is_sound && (is_sound || AreEqual(faults.front(), plain.fault)), "all faults of a mutant, the first first");
-    if (is_sound && at % 4 == 0) Use(plain.shape.get());
-    if (is_mended && at % 4 == 1) Use(other.shape.get());
-    (is_sound ? sound : is_mended ? mended : refused)++;
-  }
-  Check(sound > 100 && mended > 100 && refused > 100, "mutants are sound, mended and refused: " + std::to_string(sound) + ", " +
-                                                          std::to_string(mended) + ", " + std::to_string(refused));
 }

@@ -5,15 +5,17 @@ import os
 import sqlite3
 from contextlib import contextmanager
 from datetime import datetime
+from functools import partial
 from typing import Any, Iterator, Optional, Sequence, Union
 
-from s2ix import Durable, Logged
+from s2ix import Cell, Durable, Logged
 from s2ix.given import Entries
+from s2ix.logged import Moment
 
-from s2ix_places.history import Moment, Standing, difference_of, moved_by, moved_difference
-from s2ix_places.version_table import VersionTable, make_tables, put_versions
+from s2ix_places.history import Call, Standing, ZoneStep, difference_of, moved_by, moved_difference
+from s2ix_places.version_table import VersionTable, drop_unreached, make_tables, put_call, put_versions
 from s2ix_places.versions import Version
-from s2ix_places.zones import Words, Zones
+from s2ix_places.zones import Said, Zones
 
 _DEFAULTS = {"id": None, "max_cells": 32, "min_level": 0, "max_level": 30, "mend": False, "pairs": 1_000_000}
 
@@ -64,7 +66,8 @@ class DurableZones(Zones):
                 make_tables(connection, {**_DEFAULTS, **chosen})
         kept = self._table.settings()
         if kept["id"] != chosen.get("id", kept["id"]):
-            raise ValueError(f"the ids of its zones are in {kept['id']!r}, not in {chosen['id']!r}")
+            where = "the features' own ids" if kept["id"] is None else f"the property {kept['id']!r}"
+            raise ValueError(f"the file has the ids of its zones from {where}, not from the property {chosen['id']!r}")
         return {**kept, **chosen}
 
     def close(self) -> None:
@@ -72,9 +75,25 @@ class DurableZones(Zones):
         super().close()
         self._table.close()
 
-    def log(self, **asked: Any) -> list[Logged]:
-        """The steps in the file, as `Durable.log` lists them, which says what may be asked."""
-        return self._durable.log(**asked)
+    def log(
+        self, *, zone: Optional[str] = None, cell: Optional[Cell] = None, who: Optional[str] = None, since: Optional[Moment] = None,
+        before: Optional[Moment] = None, newest_first: bool = False, most: Optional[int] = None,
+    ) -> list[ZoneStep]:
+        """The steps in the file, the oldest first: all, or those that changed a zone, by its id, and else as `Durable.log`, which says what
+        may be asked, what it costs, and what it raises."""
+        ask = partial(self._durable.log, cell=cell, who=who, since=since, before=before, newest_first=newest_first, most=most)
+        if zone is None:
+            return [self._zone_step(each) for each in ask()]
+        found = {each.id: each for label in self._table.labels_of(zone) for each in ask(label=label)}
+        return [self._zone_step(found[id]) for id in sorted(found, reverse=newest_first)[:most]]
+
+    def _zone_step(self, logged: Logged) -> ZoneStep:
+        call = self._table.call(logged.id)
+        if call is not None:
+            return ZoneStep(*logged._replace(kind=call.kind), zones=call.ids)
+        # (what was undone, brought again or taken back)
+        moved = moved_by(self._durable.entries(logged.id))
+        return ZoneStep(*logged, zones=list(dict.fromkeys(self._versions[label].id for labels in moved for label in sorted(labels))))
 
     def refresh(self) -> bool:
         """Brings the zones up to what the file holds now, and returns whether that is something new."""
@@ -87,6 +106,25 @@ class DurableZones(Zones):
     def backup(self, path: Union[str, os.PathLike[str]]) -> None:
         """Copies the file to another path, as `Durable.backup` does."""
         self._durable.backup(path)
+
+    def compact(self, *, before: Optional[Moment] = None, note: Optional[str] = None, who: Optional[str] = None) -> None:
+        """Forgets all changes, and makes the file as small as it can be; the log stays, with the shapes that it leads to. With `before`,
+        the id of a step or a time with its zone, it forgets only what was done before that, and takes those steps from the log, and the
+        shapes that nothing leads to then: who follows may miss one until `refresh`. It costs and raises what `Durable.compact` does."""
+        with self._turn:
+            self._durable.compact(before=before, note=note, who=who)
+            self._drop_versions(set(self._labels()))
+            if before is not None and self._drop_unreached():
+                self._durable.compact(before=before)
+
+    def _drop_unreached(self) -> int:
+        """Drops from the file what the log leads to no more; returns how many versions that were."""
+        reached = set(self._labels())
+        for number in range(1, self._durable.done_count() + 1):
+            reached.update(*moved_by(self._durable.change(number)))
+        [first] = self._durable.log(most=1)
+        with self._durable.transaction() as connection:
+            return drop_unreached(connection, first.id, reached)
 
     def revert(
         self, change: Optional[int] = None, *, id: Optional[int] = None, note: Optional[str] = None, who: Optional[str] = None
@@ -126,30 +164,34 @@ class DurableZones(Zones):
         versions.update((label, version) for label, version in self._versions.items() if label in kept)
         self._versions = versions
 
-    def _words(self, note: Optional[str], who: Optional[str]) -> Words:
+    def _said(self, note: Optional[str], who: Optional[str]) -> Said:
         return {"note": note, "who": who}
 
-    def _record(self, entries: Entries, new: Sequence[Version], words: Words) -> int:
-        if self._connection is None and not new:
-            return self._durable.record(entries, **words)
+    def _record(self, entries: Entries, new: Sequence[Version], call: Call, said: Said) -> int:
         if self._connection is not None:
             put_versions(self._connection, new)
             return self._durable.record(entries)
-        with self._durable.transaction(**words) as connection:
+        with self._durable.transaction(**said) as connection:
             put_versions(connection, new)
+            put_call(connection, call)
             changed = self._durable.record(entries)
         return changed
 
     @contextmanager
-    def _group(self, words: Words) -> Iterator[None]:
+    def _group(self, said: Said) -> Iterator[None]:
         if self._connection is not None:
             with self._durable.group():
                 yield
             return
-        first = self._next_label
+        first, before = self._next_label, dict(self._standing())
         try:
-            with self._durable.transaction(**words) as self._connection:
+            with self._durable.transaction(**said) as self._connection:
                 yield
+                after = self._standing()
+                changed = [id for id in {**before, **after} if before.get(id) != after.get(id)]
+                # (a group that changes nothing is no step)
+                if changed:
+                    put_call(self._connection, Call("group", changed))
         except BaseException:
             for label in range(first, self._next_label, 2):
                 self._versions.pop(label, None)

@@ -15,6 +15,8 @@ IdOf = Union[str, Callable[[dict[str, Any]], object], None]
 
 # What names the coordinates that zones are in.
 _DEGREES = ("CRS84", "4326")
+# So many keys are told at most of what JSON can't spell.
+_DEEP = 20
 
 
 class Read(NamedTuple):
@@ -57,9 +59,39 @@ def geometry_in(shape: Any) -> tuple[Any, Optional[dict[str, Any]]]:
     return plain, None
 
 
-def text_of(value: Any) -> str:
-    """A value as JSON in ASCII, without spaces. Numbers of NumPy and times become those of JSON. Raises TypeError and ValueError."""
-    return json.dumps(value, separators=(",", ":"), default=_of_json)
+def text_of(value: Any, name: str) -> str:
+    """A value as JSON in ASCII, without spaces. Numbers of NumPy and times become those of JSON. Raises NoGeoJson, whose words are the name
+    of the value, what in it JSON can't spell, and at which keys."""
+    try:
+        return _spelt(value)
+    except (TypeError, ValueError, RecursionError) as raised:
+        raise NoGeoJson(f"{name} has {_unspelt(value) or f'what JSON cannot spell: {raised}'}") from None
+
+
+def _spelt(value: Any) -> str:
+    return json.dumps(value, separators=(",", ":"), default=_of_json, allow_nan=False)
+
+
+def _unspelt(value: Any) -> str:
+    """The part of a value that JSON can't spell, and its keys; or nothing if it isn't in a part of it."""
+    keys: list[Any] = []
+    while len(keys) < _DEEP and (found := next(filter(_is_unspelt, _parts_of(value)), None)) is not None:
+        key, value = found
+        keys.append(key)
+    kind = f"the number {value}" if isinstance(value, float) else f"an object of type {type(value).__name__}"
+    return f"{kind} at {''.join(f'[{key!r}]' for key in keys)}, which JSON cannot spell" if keys else ""
+
+
+def _parts_of(value: Any) -> Iterable[tuple[Any, Any]]:
+    return value.items() if isinstance(value, dict) else enumerate(value) if isinstance(value, (list, tuple)) else ()
+
+
+def _is_unspelt(part: tuple[Any, Any]) -> bool:
+    try:
+        _spelt(part[1])
+    except (TypeError, ValueError, RecursionError):
+        return True
+    return False
 
 
 def _of_json(value: Any) -> Any:

@@ -2,17 +2,37 @@
 from __future__ import annotations
 
 from datetime import datetime
-from typing import Any, Iterable, Mapping, NamedTuple, Optional, Union
+from typing import Any, Iterable, Mapping, NamedTuple, Optional, Sequence
 
 from s2ix import Entry, Index
 from s2ix.refusals import NoSuchChange
 
 from s2ix_places.versions import Version
 
-#: A moment is that before a change, by its number; in a file that before a step, by its id, or a time with its zone.
-Moment = Union[int, datetime]
 #: For the id of each zone that stands, the label of its version.
 Standing = dict[str, int]
+
+
+class Call(NamedTuple):
+    """What a step was to whoever made it: the call, as `put` or `group`, and the ids of the zones that it changed."""
+
+    kind: str
+    ids: Sequence[str]
+
+
+class ZoneStep(NamedTuple):
+    """A step in the log of zones: its id, which no other ever has; when it was made, in UTC; its note; whether its change is undone; who
+    made it; its kind, as `put`, `put_all`, `drop`, `rename`, `restore`, `group`, `undo`, `redo` or `revert`; the step that it took back or
+    brought again; and the ids of the zones that it changed."""
+
+    id: int
+    time: datetime
+    note: Optional[str]
+    is_undone: bool
+    who: Optional[str]
+    kind: str
+    of: Optional[int]
+    zones: Sequence[str]
 
 
 class Moved(NamedTuple):

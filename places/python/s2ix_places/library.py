@@ -74,7 +74,8 @@ def load() -> ctypes.CDLL:
     Raises OSError, which says what to install, if the library is nowhere, or the library of S2 that it needs."""
     found = places()
     if not found:
-        raise OSError("there is no libs2ix_places.so: tools/build_places makes it, and S2IX_PLACES_LIBRARY may name it")
+        raise OSError("there is no libs2ix_places.so: the wheel s2ix_places and Debian's package s2ix-places have it, tools/build_places makes it, "
+                      "and S2IX_PLACES_LIBRARY may name it")
     try:
         library = ctypes.CDLL(found[0])
     except OSError as raised:

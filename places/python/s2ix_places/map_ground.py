@@ -4,7 +4,8 @@ import re
 import struct
 from typing import Iterator, List, Union
 
-_LEAFLET = pathlib.Path("/usr/share/javascript/leaflet")
+# Where Leaflet may be: in a wheel's package, and where Debian's package has it.
+_LEAFLET = (pathlib.Path(__file__).parent / "leaflet", pathlib.Path("/usr/share/javascript/leaflet"))
 COUNTRIES = pathlib.Path("/usr/lib/python3/dist-packages/geopandas/datasets/naturalearth_lowres/naturalearth_lowres.shp")
 # Corners of countries are rounded to hundredths of degrees.
 _COAST_UNITS = 100
@@ -30,14 +31,24 @@ HOWEVER CAUSED AND ON ANY THEORY OF LIABILITY, WHETHER IN CONTRACT, STRICT LIABI
 ARISING IN ANY WAY OUT OF THE USE OF THIS SOFTWARE, EVEN IF ADVISED OF THE POSSIBILITY OF SUCH DAMAGE."""
 
 
-def leaflet_files(folder: Union[str, pathlib.Path, None] = None) -> "dict[str, str]":
-    """The texts of leaflet.js and leaflet.css from a folder, or else from where Debian's package has them, fit to stand in a page. Raises
-    FileNotFoundError, which says what to install, if one isn't there, and ValueError if a text would end the element that it stands in."""
-    place, texts = pathlib.Path(folder or _LEAFLET), {}
+def leaflet_paths(folder: Union[str, pathlib.Path, None] = None) -> "dict[str, pathlib.Path]":
+    """Where leaflet.js and leaflet.css lie: in a folder, or else in this package, if it is of a wheel, or where Debian's package has them.
+    Raises FileNotFoundError, which says what to install, if one isn't there."""
+    place = pathlib.Path(folder) if folder else next((each for each in _LEAFLET if each.is_dir()), _LEAFLET[-1])
+    paths = {}
     for name, spellings in _NAMES.items():
         found = next((place / each for each in spellings if (place / each).is_file()), None)
         if not found:
             raise FileNotFoundError(f"the map needs Leaflet, but {place} has no {name}: apt-get install libjs-leaflet, or leaflet=FOLDER")
+        paths[name] = found
+    return paths
+
+
+def leaflet_files(folder: Union[str, pathlib.Path, None] = None) -> "dict[str, str]":
+    """The texts of leaflet.js and leaflet.css, fit to stand in a page. Raises what `leaflet_paths` does, and ValueError if a text would end the
+    element that it stands in."""
+    texts = {}
+    for name, found in leaflet_paths(folder).items():
         text = re.sub(r"(?m)^//# sourceMappingURL=.*$", "", found.read_text("utf-8"))
         if re.search(r"</(?:script|style)|<!--", text, re.IGNORECASE):
             raise ValueError(f"{found} can't stand in a page: it has the end of an element or the start of a comment")

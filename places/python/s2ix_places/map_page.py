@@ -51,8 +51,8 @@ def page_of(history: Iterable[Mapping[str, Any]], *, title: str = "Zones", name:
     `title` stands over the page. `name` is the property with the name of a zone; one without it goes by its id. `tiles` is an address as
     'https://tile.example.org/{z}/{x}/{y}.png', from where the browser takes tiles of a Web Mercator map, with `attribution` as their
     credit, a plain text; without `tiles` the page asks for nothing from outside. `leaflet` is the folder with leaflet.js and leaflet.css,
-    if not where Debian's libjs-leaflet has them. `coasts` draws the countries of Debian's python3-geopandas beneath the zones, if they are
-    installed.
+    if not where the wheel or Debian's libjs-leaflet has them. `coasts` draws the countries of Debian's python3-geopandas beneath the zones,
+    if they are installed.
 
     All texts are shown as they are: none is read as HTML. Coordinates are rounded to 1e-7 degrees, a centimetre. A click is answered on
     the sphere with these coordinates; at a border itself it may name either side. The map reaches to 85 degrees north and south.

@@ -2,6 +2,7 @@
 from __future__ import annotations
 
 import ctypes
+import threading
 import weakref
 from array import array
 from ctypes import addressof
@@ -17,12 +18,13 @@ _CELLS = 50
 class ShapeSet:
     """Shapes under labels. Threads may share it: they ask side by side."""
 
-    __slots__ = ("_address", "_labels", "__weakref__")
+    __slots__ = ("_address", "_labels", "_turn", "__weakref__")
 
     def __init__(self) -> None:
         made = ctypes.c_void_p()
         expect(load().s2ix_shape_set_new(_CELLS, addressof(made)))
-        self._address, self._labels = made.value, set[int]()
+        # (what it is known to have, it has, unless another thread is about to take it away)
+        self._address, self._labels, self._turn = made.value, set[int](), threading.Lock()
         weakref.finalize(self, load().s2ix_shape_set_free, made.value)
 
     def missing(self, labels: Sequence[int]) -> list[int]:
@@ -34,9 +36,10 @@ class ShapeSet:
         """Puts shapes under labels, in place of those that are there, or takes away what is under a label; all or none."""
         labels = array("I", shapes)
         handles = (ctypes.c_void_p * len(shapes))(*(None if shape is None else shape.address for shape in shapes.values()))
-        expect(load().s2ix_shape_set_put(self._address, labels.buffer_info()[0], addressof(handles), len(shapes)))
-        self._labels.update(label for label, shape in shapes.items() if shape is not None)
-        self._labels.difference_update(label for label, shape in shapes.items() if shape is None)
+        with self._turn:
+            self._labels.difference_update(label for label, shape in shapes.items() if shape is None)
+            expect(load().s2ix_shape_set_put(self._address, labels.buffer_info()[0], addressof(handles), len(shapes)))
+            self._labels.update(label for label, shape in shapes.items() if shape is not None)
 
     def keep(self, labels: set[int]) -> None:
         """Takes away all but some labels."""

@@ -1,10 +1,11 @@
-"""The versions of zones in a file of SQLite, beside the index that it keeps: they are written in the transaction of the step that puts
-them.
+"""The versions of zones in a file of SQLite, and the calls that put them or took them away, beside the index that it keeps: they are
+written in the transaction of their step.
 
 `places_version` has a row for each version: its label, the id of its zone, its geometry and its properties as texts of JSON, whether it
-is read with `mend`, its rim cells and its inner cells, each as 8 bytes with the lowest first, and a seal. Rows are only added.
-`places_setting` has one row, a text of JSON. A seal is the CRC-32 of the other values of its row, in their order: texts in UTF-8, numbers
-in decimal digits, cells as they lie there, each followed by a byte 31."""
+is read with `mend`, its rim cells and its inner cells, each as 8 bytes with the lowest first, and a seal. `places_step` has a row for each
+step of the log that edited zones: its id, what was called, the ids of the zones as a text of JSON, and a seal. Rows are only added, until
+the log is shortened. `places_setting` has one row, a text of JSON. A seal is the CRC-32 of the other values of its row, in their order:
+texts in UTF-8, numbers in decimal digits, cells as they lie there, each followed by a byte 31."""
 from __future__ import annotations
 
 import json
@@ -13,15 +14,18 @@ import sqlite3
 import sys
 import zlib
 from array import array
-from typing import Any, Iterable, Optional
+from typing import Any, Container, Iterable, Optional
 
 from s2ix import Spoilt
 
+from s2ix_places.history import Call
 from s2ix_places.versions import Version
 
 _TABLES = (
     "CREATE TABLE places_version (label INTEGER PRIMARY KEY, id TEXT, geometry TEXT, properties TEXT, mended INTEGER, rim BLOB, "
     "inner BLOB, seal INTEGER)",
+    "CREATE INDEX places_version_id ON places_version (id)",
+    "CREATE TABLE places_step (step INTEGER PRIMARY KEY, kind TEXT, ids TEXT, seal INTEGER)",
     "CREATE TABLE places_setting (settings TEXT, seal INTEGER)",
 )
 _INSERT = "INSERT INTO places_version VALUES (?, ?, ?, ?, ?, ?, ?, ?)"
@@ -64,6 +68,20 @@ class VersionTable:
         label, id, geometry, properties, is_mended, rim, inner, _ = row
         return Version(label, id, geometry, properties, bool(is_mended), _cells_in(rim), _cells_in(inner))
 
+    def labels_of(self, id: str) -> list[int]:
+        """The labels of all versions of a zone, each that of one of its cells."""
+        rows = self._connection.execute("SELECT label, length(rim) FROM places_version WHERE id = ?", (id,))
+        return [label if rim else label + 1 for label, rim in rows]
+
+    def call(self, step: int) -> Optional[Call]:
+        """What a step was, if it edited zones. Raises Spoilt if that is not as it was written."""
+        row = self._connection.execute("SELECT step, kind, ids, seal FROM places_step WHERE step = ?", (step,)).fetchone()
+        if row is None:
+            return None
+        if row[-1] != _seal_of(row[:-1]):
+            raise Spoilt(step, "what was called is not as it was written")
+        return Call(row[1], json.loads(row[2]))
+
     def _asked(self, question: str) -> Any:
         return self._connection.execute(question).fetchone()[0]
 
@@ -83,6 +101,23 @@ def put_versions(connection: sqlite3.Connection, versions: Iterable[Version]) ->
         for each in versions
     )
     connection.executemany(_INSERT, ((*row, _seal_of(row)) for row in rows))
+
+
+def put_call(connection: sqlite3.Connection, call: Call) -> None:
+    """Puts what the step is that the transaction makes. It has the id after the last one."""
+    (last,) = connection.execute("SELECT last FROM s2ix_state").fetchone()
+    row = last + 1, call.kind, json.dumps(call.ids)
+    connection.execute("INSERT INTO places_step VALUES (?, ?, ?, ?)", (*row, _seal_of(row)))
+
+
+def drop_unreached(connection: sqlite3.Connection, first: int, reached: Container[int]) -> int:
+    """Drops what the log, which begins with a step, leads to no more, in the transaction of a step: calls, and all versions that it doesn't
+    name and that aren't reached otherwise. Returns how many versions these were."""
+    logged = {label & ~1 for (label,) in connection.execute("SELECT label FROM s2ix_label")}
+    gone = [row for row in connection.execute("SELECT label FROM places_version") if row[0] not in logged and row[0] not in reached]
+    connection.executemany("DELETE FROM places_version WHERE label = ?", gone)
+    connection.execute("DELETE FROM places_step WHERE step < ?", (first,))
+    return len(gone)
 
 
 def _bytes_of(cells: array[int]) -> bytes:

@@ -7,7 +7,7 @@ from array import array
 from typing import Any, Iterator, NamedTuple, Optional
 
 from s2ix_places.features import text_of
-from s2ix_places.refusals import NoPolygon
+from s2ix_places.refusals import NoGeoJson, NoPolygon
 from s2ix_places.shapes import Cover, Shape
 
 
@@ -76,13 +76,14 @@ class Version(NamedTuple):
 
 
 def drafted(id: str, geometry: Any, properties: Any, cover: Cover, mend: bool) -> tuple[Version, Shape]:
-    """A version without a label, and its shape. Raises NoPolygon, and TypeError or ValueError for properties that JSON can't spell."""
+    """A version without a label, and its shape. Raises NoPolygon, and NoGeoJson for properties that aren't a dict which JSON can spell."""
     if not isinstance(properties, dict):
-        raise TypeError(f"properties are a dict, not a {type(properties).__name__}")
+        raise NoGeoJson(f"its properties are no object, but of type {type(properties).__name__}")
     shape = Shape(geometry, mend)
     cells = shape.cells(cover)
     inside = shape.has_each(cells)
     rim, inner = (array("Q", (cell for cell, is_in in zip(cells, inside) if is_in is wanted)) for wanted in (False, True))
     if not cells:
         raise NoPolygon("it has no cell")
-    return Version(-2, id, text_of(geometry), text_of(properties), mend, rim, inner), shape
+    texts = text_of(geometry, "its member 'geometry'"), text_of(properties, "its member 'properties'")
+    return Version(-2, id, *texts, mend, rim, inner), shape

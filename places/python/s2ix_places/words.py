@@ -5,6 +5,7 @@ import argparse
 import csv
 import importlib
 import json
+import pathlib
 import sqlite3
 import sys
 from array import array
@@ -40,7 +41,11 @@ def main(words: Sequence[str]) -> int:
 
 
 def _parser() -> argparse.ArgumentParser:
-    parser = argparse.ArgumentParser(prog="python3 -m s2ix_places", description="Zones from GeoJSON: their cells, and points in them.")
+    # (raw, so that the path of the page stays in one piece)
+    parser = argparse.ArgumentParser(
+        prog="python3 -m s2ix_places", description="Zones from GeoJSON: their cells, points in them, and maps.", epilog=f"{_page()} says more.",
+        formatter_class=argparse.RawDescriptionHelpFormatter,
+    )
     words = parser.add_subparsers(dest="word", required=True, metavar="WORD")
     cover = words.add_parser("cover", help="prints the dump of the cells of zones", description=(
         "Prints the dump of the cells of zones, which the program s2ix and s2ix.Index.load read. Zone k has label 2 k for its rim cells, "
@@ -67,6 +72,13 @@ def _parser() -> argparse.ArgumentParser:
     geojson.add_argument("--names", metavar="FILE", help="reads the id of each label from a file, as cover writes it")
     geojson.set_defaults(work=_geojson)
     return parser
+
+
+def _page() -> pathlib.Path:
+    """The page PLACES.md, which is beside this file in a package, and among the docs of the repository."""
+    here = pathlib.Path(__file__).resolve().parent
+    beside = here / "PLACES.md"
+    return beside if beside.exists() else here.parents[2] / "docs" / "PLACES.md"
 
 
 def _add_zones(parser: argparse.ArgumentParser) -> None:

@@ -11,11 +11,12 @@ from typing import TYPE_CHECKING, Any, Callable, Hashable, Iterable, Iterator, O
 
 from s2ix import Index
 from s2ix.given import Entries
+from s2ix.logged import Moment
 from s2ix.refusals import NoChange, S2ixError, TooManyPairs, named
 
 from s2ix_places.cells_geojson import CellName, cells_geojson
 from s2ix_places.features import IdOf, Read, Source, geometry_in, id_with_reason, read
-from s2ix_places.history import Moment, Moved, Standing, collection, difference_of, moved_by, standing_before, steps_of
+from s2ix_places.history import Call, Moved, Standing, collection, difference_of, moved_by, standing_before, steps_of
 from s2ix_places.joins import Columns, joined
 from s2ix_places.points import labels_at, labels_at_each
 from s2ix_places.progress import told
@@ -29,8 +30,8 @@ if TYPE_CHECKING:
 
 _Zones = TypeVar("_Zones", bound="Zones")
 
-#: The note for a step, and who makes it, for the index.
-Words = dict[str, Any]
+#: What is said of a step, for the index: its note, and who makes it.
+Said = dict[str, Any]
 
 
 class Zones:
@@ -94,11 +95,7 @@ class Zones:
             changes=changes,
         )
         try:
-            try:
-                zones.skipped = zones.put_all(source, id, on_error=on_error, progress=progress)
-            except NoChange:
-                # (there is no feature)
-                pass
+            zones.skipped = zones.put_all(source, id, on_error=on_error, progress=progress, same_ok=True)
             zones.forget()
         except BaseException:
             zones.close()
@@ -206,12 +203,13 @@ class Zones:
 
     def put(
         self, id: str, shape: Any, properties: Optional[dict[str, Any]] = None, *, max_cells: Optional[int] = None,
-        mend: Optional[bool] = None, note: Optional[str] = None, who: Optional[str] = None,
+        mend: Optional[bool] = None, same_ok: bool = False, note: Optional[str] = None, who: Optional[str] = None,
     ) -> int:
         """Puts a zone under an id, in place of the one that was there if there was one; returns its label. The shape is a geometry of
         GeoJSON, a feature, or anything with a `__geo_interface__`. Properties are a dict, or else those of the feature; without either the
         zone has none from then on. `note` and `who` are for zones in a file, here and in each other step: in memory they raise TypeError.
-        Raises Faulty for a shape or an id that can't be a zone's, NoChange if the zone is just so, and TooManyPairs."""
+        Raises Faulty for a shape, an id or properties that can't be a zone's, TooManyPairs, and NoChange if the zone is just so: with
+        `same_ok` it stays then, and nothing is recorded."""
         geometry, own = geometry_in(shape)
         read = Read(0, id, geometry, (own or {}) if properties is None else properties)
         cover = self.cover if max_cells is None else self.cover._replace(max_cells=max_cells).check()
@@ -219,16 +217,18 @@ class Zones:
         made = self._draft(read, cover, self.mend if mend is None else mend, faults)
         if made is None:
             raise Faulty(faults, 1)
-        return self._replace([made], self._words(note, who))[0]
+        with self._turn:
+            self._replace("put", [made], same_ok, self._said(note, who))
+            return self._standing()[made[0].id]
 
     def put_all(
-        self, source: Source, id: IdOf = None, *, on_error: str = "raise", progress: bool = True, note: Optional[str] = None,
-        who: Optional[str] = None,
+        self, source: Source, id: IdOf = None, *, on_error: str = "raise", progress: bool = True, same_ok: bool = False,
+        note: Optional[str] = None, who: Optional[str] = None,
     ) -> list[Fault]:
         """Puts all zones of a source, as `read` does, as one change. Zones that are just so stay, and so do those that aren't in the
         source. Returns the faults of the features that were left out. `id` is as for `read`: without it, it is the property that was given
         for these zones, but a function isn't kept. Raises what `read` does, and NoChange if all zones are just so, or there is none, unless
-        it returns faults."""
+        it returns faults: with `same_ok` all stays as it is then, and nothing is recorded."""
         if on_error not in ("raise", "skip"):
             raise ValueError(f"on_error is 'raise' or 'skip', not {on_error!r}")
         found, faults, many = read(source, self.id_name if id is None else id)
@@ -236,17 +236,13 @@ class Zones:
         faults.sort()
         if faults and on_error == "raise":
             raise Faulty(faults, many)
-        try:
-            self._replace(drafts, self._words(note, who))
-        except NoChange:
-            if not faults:
-                raise
+        self._replace("put_all", drafts, same_ok or bool(faults), self._said(note, who))
         return faults
 
     def drop(self, id: str, *, note: Optional[str] = None, who: Optional[str] = None) -> None:
         """Takes a zone away. Raises NoZone."""
         with self._turn:
-            self._move([self._version(id)], [], self._words(note, who))
+            self._move("drop", [self._version(id)], [], self._said(note, who))
 
     def rename(self, id: str, new: str, *, note: Optional[str] = None, who: Optional[str] = None) -> int:
         """Gives a zone another id, and returns its new label. Raises NoZone, Clash if a zone has the new id, and Faulty if it is no
@@ -256,7 +252,7 @@ class Zones:
             version = self._version(id)
             if new in self._standing():
                 raise Clash(f"a zone {new!r} stands already")
-            return self._change([version], [version._replace(id=new)], self._words(note, who))[0]
+            return self._change("rename", [version], [version._replace(id=new)], self._said(note, who))[0]
 
     def restore(self, id: str, before: Moment, *, note: Optional[str] = None, who: Optional[str] = None) -> int:
         """Makes a zone what it was before a change, by its number as in `revert`: shape, properties and cells, whatever came later. This
@@ -269,7 +265,7 @@ class Zones:
             now = self._standing().get(id)
             if was == now:
                 raise NoChange
-            self._move([] if now is None else [self._versions[now]], [self._versions[was]], self._words(note, who))
+            self._move("restore", [] if now is None else [self._versions[now]], [self._versions[was]], self._said(note, who))
             return was
 
     def undo(self, *, note: Optional[str] = None, who: Optional[str] = None) -> int:
@@ -277,12 +273,12 @@ class Zones:
         with self._turn:
             number = self.index.done_count()
             moved = moved_by(self.index.change(number)) if number else Moved(set(), set())
-            return self._step(partial(self.index.undo, **self._words(note, who)), lambda: moved)
+            return self._step(partial(self.index.undo, **self._said(note, who)), lambda: moved)
 
     def redo(self, *, note: Optional[str] = None, who: Optional[str] = None) -> int:
         """Does the change again that was undone last; returns how many pairs it has. Raises NothingToRedo."""
         with self._turn:
-            redo = partial(self.index.redo, **self._words(note, who))
+            redo = partial(self.index.redo, **self._said(note, who))
             return self._step(redo, lambda: moved_by(self.index.change(self.index.done_count())))
 
     def revert(self, change: int, *, note: Optional[str] = None, who: Optional[str] = None) -> int:
@@ -292,15 +288,15 @@ class Zones:
         with self._turn:
             moved = moved_by(self.index.change(change))
             self._expect_free(moved)
-            return self._step(partial(self.index.revert, change, **self._words(note, who)), lambda: moved)
+            return self._step(partial(self.index.revert, change, **self._said(note, who)), lambda: moved)
 
     @contextmanager
     def group(self, *, note: Optional[str] = None, who: Optional[str] = None) -> Iterator[None]:
         """Makes one change of all that is done in a `with`. If the `with` ends with an exception, all that was done in it is undone."""
-        words = self._words(note, who)
+        said = self._said(note, who)
         with self._turn:
             try:
-                with self._group(words):
+                with self._group(said):
                     yield
             except BaseException:
                 self._is_stale = True
@@ -353,7 +349,8 @@ class Zones:
 
     def cells_geojson(self, outlines: bool = False) -> dict[str, Any]:
         """The cells of all zones as a FeatureCollection, for a look at them on a map: a feature for each cell, with its zone's id, its
-        token, and whether it lies within; or, with `outlines`, one for each zone, with the outline of its cells."""
+        token, and whether it lies within; or, with `outlines`, one for each zone, with the outline of its cells. Raises PlacesError if the
+        cells of a zone are the whole sphere, which has no outline: with few cells a zone of half the earth may have them all."""
         with self._turn:
             versions = [self._versions[label] for label in self._labels()]
             if outlines:
@@ -418,14 +415,12 @@ class Zones:
                 return drafted(id, read.geometry, read.properties, cover, mend)
         except PlacesError as raised:
             reason = str(raised)
-        except (TypeError, ValueError) as raised:
-            reason = f"JSON can't spell its properties: {raised}"
         faults.append(Fault(read.place, id, reason or ""))
         return None
 
-    def _replace(self, drafts: Sequence[tuple[Version, Shape]], words: Words) -> list[int]:
-        """Puts drafts in place of what has their ids, but for those that are just so, as one change; returns the labels. Raises NoChange
-        if all are just so."""
+    def _replace(self, kind: str, drafts: Sequence[tuple[Version, Shape]], same_ok: bool, said: Said) -> None:
+        """Puts drafts in place of what has their ids, but for those that are just so, as one change. Raises NoChange if all are just so,
+        unless that is right."""
         with self._turn:
             standing, gone, new, shapes = self._standing(), [], [], []
             for version, shape in drafts:
@@ -435,12 +430,12 @@ class Zones:
                 gone += [] if was is None else [was]
                 new.append(version)
                 shapes.append(shape)
-            if not new:
+            if new:
+                self._expect_room(gone, new)
+                labels = self._change(kind, gone, new, said)
+                self._shapes.put(dict(zip(labels, shapes)))
+            elif not same_ok:
                 raise NoChange
-            self._expect_room(gone, new)
-            labels = self._change(gone, new, words)
-            self._shapes.put(dict(zip(labels, shapes)))
-            return labels
 
     def _expect_room(self, gone: Sequence[Version], new: Sequence[Version]) -> None:
         """Raises TooManyPairs, with the first zone that is too much."""
@@ -461,14 +456,14 @@ class Zones:
             if self._standing().get(id, label) not in (label, *moved.come):
                 raise Clash(f"zone {id!r} stands as something else since: restore it, or drop it first")
 
-    def _change(self, gone: Sequence[Version], new: Sequence[Version], words: Words) -> list[int]:
+    def _change(self, kind: str, gone: Sequence[Version], new: Sequence[Version], said: Said) -> list[int]:
         """Takes versions away and puts new ones, which get labels, as one change."""
         labels = range(self._next_label, self._next_label + 2 * len(new), 2)
         come = [version._replace(label=label) for label, version in zip(labels, new)]
         self._next_label = labels.stop
         self._versions.update(zip(labels, come))
         try:
-            self._move(gone, come, words, come)
+            self._move(kind, gone, come, said, come)
         except BaseException:
             self._drop_unheld(come)
             raise
@@ -485,26 +480,26 @@ class Zones:
             if not is_held:
                 self._versions.pop(version.label, None)
 
-    def _move(self, gone: Sequence[Version], come: Sequence[Version], words: Words, new: Sequence[Version] = ()) -> None:
-        """Takes versions away and puts others, of which some are new, as one change."""
+    def _move(self, kind: str, gone: Sequence[Version], come: Sequence[Version], said: Said, new: Sequence[Version] = ()) -> None:
+        """Takes versions away and puts others, of which some are new, as one change, by a call of a kind."""
         entries = [(*pair, 1, 0) for version in gone for pair in version.pairs()]
         entries += [(*pair, 0, 1) for version in come for pair in version.pairs()]
         entries.sort()
-        make = partial(self._record, entries, new, words)
+        call = Call(kind, list(dict.fromkeys(version.id for version in (*gone, *come))))
         moved = Moved({version.label for version in gone}, {version.label for version in come})
-        self._step(make, lambda: moved)
+        self._step(partial(self._record, entries, new, call, said), lambda: moved)
 
-    def _record(self, entries: Entries, new: Sequence[Version], words: Words) -> int:
-        """Makes a change of the index, with new versions."""
-        return self.index.record(entries, **words)
+    def _record(self, entries: Entries, new: Sequence[Version], call: Call, said: Said) -> int:
+        """Makes a change of the index, with new versions, for a call."""
+        return self.index.record(entries, **said)
 
     @contextmanager
-    def _group(self, words: Words) -> Iterator[None]:
+    def _group(self, said: Said) -> Iterator[None]:
         """A group of the index."""
-        with self.index.group(**words):
+        with self.index.group(**said):
             yield
 
-    def _words(self, note: Optional[str], who: Optional[str]) -> Words:
+    def _said(self, note: Optional[str], who: Optional[str]) -> Said:
         """The note for a step, and who makes it. In memory no step has them."""
         if note is not None or who is not None:
             raise TypeError("zones in memory keep no notes: those of Zones.open do")
@@ -542,6 +537,6 @@ def _again(versions: list[Version], id_name: Optional[str], cover: Cover, mend: 
     if versions:
         zones._versions = {version.label: version for version in versions}
         zones._next_label = versions[-1].label + 2
-        zones._move([], versions, {})
+        zones._move("put_all", [], versions, {})
         zones.forget()
     return zones
