@@ -1,16 +1,16 @@
 """Random lines of scripts, over what a model of the program holds."""
-from plain_cells import LEAF_LEVEL, children_at, level_of, neighbors_of, parent_at, token_of
-from plain_model import Model
+from models.plain_cells import LEAF_LEVEL, children_at, level_of, neighbors_of, parent_at, token_of
+from models.plain_model import Model
 
 LABELS = [0, 1, 2, 30, 2147483647]
 SPACES = [" ", " ", " ", "\t", "  ", "\u2003", "\x0b \x85"]
 
 
 class Writer:
-    """A generator of lines over what a model holds."""
+    """A generator of lines over what a model holds, with these labels."""
 
-    def __init__(self, chance, model):
-        self.chance, self.model = chance, model
+    def __init__(self, chance, model, labels=LABELS):
+        self.chance, self.model, self.labels = chance, model, labels
 
     def cell(self):
         """A cell: one that is held, one near it, or one of any level near the corners and the middle of a face."""
@@ -42,7 +42,7 @@ class Writer:
         return leaves[self.chance.choice([0, -1, self.chance.randrange(len(leaves))])]
 
     def label(self):
-        return self.chance.choice(LABELS)
+        return self.chance.choice(self.labels)
 
     def held_pair(self):
         pairs = list(self.model.counts)

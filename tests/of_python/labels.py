@@ -4,10 +4,10 @@ import random
 import sys
 import threading
 
-import plain_cells as plain
+from models import plain_cells as plain
 import s2ix
-from plain_model import Model, differences
-from random_lines import Writer
+from models.plain_model import Model, differences
+from models.random_lines import Writer
 from s2ix import Index
 
 FIRST, SECOND, THIRD, FACE = 0x0400000000000000, 0x0C00000000000000, 0x1400000000000000, 0x1000000000000000

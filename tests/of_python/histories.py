@@ -7,8 +7,8 @@ import re
 import tempfile
 
 import s2ix
-from plain_model import Model, differences
-from random_lines import Writer, start_of
+from models.plain_model import Model, differences
+from models.random_lines import Writer, start_of
 from s2ix import Index
 
 FIRST, SECOND, FACE = 0x0400000000000000, 0x0C00000000000000, 0x1000000000000000
@@ -238,7 +238,7 @@ def check_journals(count):
 
 def check_page(count):
     """The functions of docs/FROM_PYTHON.md that keep an index and open it again: each time the file has the last index alone."""
-    with open(f"{os.path.dirname(os.path.realpath(__file__))}/../docs/FROM_PYTHON.md", encoding="utf-8") as file:
+    with open(f"{os.path.dirname(os.path.realpath(__file__))}/../../docs/FROM_PYTHON.md", encoding="utf-8") as file:
         lines = re.search(r"## How to keep an index\n\n```python\n(.*?)```", file.read(), re.S)[1]
     words = {"Index": Index}
     exec(lines, words)

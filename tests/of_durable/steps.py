@@ -12,7 +12,8 @@ import sys
 import tempfile
 
 import s2ix
-from durable_tools import FACE, FIRST, SECOND, told
+from of_durable.tools import FACE, FIRST, SECOND, told
+from of_python import timers
 from s2ix import Durable, Index
 
 PACKAGE = os.path.dirname(os.path.realpath(s2ix.__file__))
@@ -463,5 +464,7 @@ def check_all(count):
     check_dropped(count)
     check_end(count)
     with tempfile.TemporaryDirectory(dir="/dev/shm" if os.path.isdir("/dev/shm") else None) as folder:
+        sys.unraisablehook = timers.but_for(KeyboardInterrupt)
         for check in (check_interrupts, check_two, check_storms, check_closes, check_backups, check_refreshes, check_handlers):
             check(count, folder)
+        sys.unraisablehook = sys.__unraisablehook__

@@ -8,7 +8,7 @@ import sqlite3
 import time
 import zlib
 
-from durable_tools import FACE, FIRST, SECOND, in_file, ran, shown, told, words_of
+from of_durable.tools import FACE, FIRST, SECOND, in_file, ran, shown, told, words_of
 from s2ix import Durable, LaterForm, NotKept, Spoilt
 from s2ix.form import seal_of
 
@@ -49,7 +49,9 @@ SPOILT = [
     ("UPDATE s2ix_saved SET standing = '1-9'", True, 6),
     ("UPDATE s2ix_saved SET standing = 'x'", True, 0),
     ("UPDATE s2ix_saved SET standing = '1-99999999999'", True, 0),
-    ("UPDATE s2ix_saved SET undone = '5'", True, 5),
+    ("UPDATE s2ix_saved SET undone = '5'", True, 0),
+    ("UPDATE s2ix_saved SET changes = 7", True, 0),
+    ("UPDATE s2ix_saved SET changes = NULL", True, 0),
     ("UPDATE s2ix_saved SET tip = 7", False, 0),
     ("UPDATE s2ix_saved SET tip = 7", True, 1),
     ("DELETE FROM s2ix_saved", False, 0),
@@ -133,26 +135,105 @@ def check_before_refresh(count, path):
         count.expect("gone before a refresh", (told(follower.refresh), shown(follower)), ("Spoilt", kept))
 
 
+def saved_last(path):
+    """A file whose only saved states are before its first step and after its last: what opens it reads no step between them. Returns the
+    times of its steps."""
+    with Durable(path) as index:
+        for place, cell in enumerate(("04", "0c", "14", "1c", "24")):
+            index.add(cell, 1 + place % 2, who="ann")
+        index.compact()
+        return [each.time for each in index.log()]
+
+
+def by_hand(path, words, *given):
+    hand = sqlite3.connect(path)
+    hand.execute(words, given)
+    hand.commit()
+    hand.close()
+
+
+def check_gone(count, folder):
+    """A step in the middle is gone: whatever wants it says so, nothing is made of what is left, and the file stays as it is."""
+    path = f"{folder}/gone.db"
+    moments = saved_last(path)
+    by_hand(path, "DELETE FROM s2ix_step WHERE id = 3")
+    before = bytes_at(path)
+    with Durable(path) as index:
+        asked = [{}, {"before": 4}, {"since": 3, "before": 4}, {"since": 3, "most": 1}, {"newest_first": True}, {"newest_first": True, "before": 4},
+                 {"label": 1}, {"label": 1, "who": "ann"}, {"label": 1, "since": 3}, {"label": 1, "newest_first": True, "most": 2}, {"label": 1, "cell": "14"},
+                 {"cell": "14"}, {"cell": "1", "since": 3}, {"cell": "14", "who": "ann"}, {"cell": "14", "newest_first": True, "most": 1}]
+        for each in asked:
+            count.expect(f"a log without a step, {each}", told(index.log, **each), "Spoilt")
+        listed = [[each.id for each in index.log(**given)] for given in ({"label": 2, "before": 4}, {"cell": "04"}, {"before": 3}, {"label": 1, "most": 1})]
+        count.expect("what is before it", (listed, index.as_of(2).copies()), ([[2], [1], [1, 2], [1]], 2))
+        calls = [lambda: index.as_of(3), lambda: index.as_of(4), lambda: index.as_of(moments[2]), lambda: index.log(before=moments[3], since=3),
+                 lambda: index.entries(3), lambda: index.entries(4), lambda: index.restore(1, 3), lambda: index.restore(1, 4), lambda: index.restore(1, 5)]
+        calls += [lambda before=before: index.compact(before=before) for before in (3, 4, 5, 6, moments[3])]
+        count.expect("what wants a step that is gone", [told(call) for call in calls], ["Spoilt"] * len(calls))
+        count.expect("no step", (told(index.entries, 9), told(index.entries, 0), index.entries(6)), ("NoSuchChange", "NoSuchChange", []))
+    count.expect("the file then", bytes_at(path), before)
+    with Durable(path) as index:
+        by_hand(path, "DELETE FROM s2ix_step WHERE id = 6")
+        found = told(index.log), told(index.log, since=6), told(index.entries, 6), index.as_of(6).copies()
+        count.expect("the last step is gone, and a state after it is there", found, ("Spoilt", "Spoilt", "Spoilt", 5))
+
+
+def check_seals(count, folder):
+    """The seal or the time of a step in the middle is no number, or none."""
+    for place, bad in enumerate(("x", b"\xff", None, 1.5, 1 << 40)):
+        path = f"{folder}/seal{place}.db"
+        saved_last(path)
+        by_hand(path, "UPDATE s2ix_step SET seal = ? WHERE id = 3", bad)
+        with Durable(path) as index:
+            calls = [index.log, lambda: index.log(label=2, since=4), lambda: index.log(cell="1c"), lambda: index.entries(3), lambda: index.entries(4),
+                     lambda: index.as_of(3), lambda: index.as_of(4), lambda: index.restore(1, 4), lambda: index.compact(before=4)]
+            count.expect(f"the seal {bad}", [told(call) for call in calls], ["Spoilt"] * len(calls))
+    path = f"{folder}/time.db"
+    for bad in ("x", b"\xff", None, 1.5):
+        moment = saved_last(path)[4]
+        by_hand(path, "UPDATE s2ix_step SET time = ? WHERE id IN (3, 4)", bad)
+        with Durable(path) as index:
+            count.expect(f"the time {bad}", [told(index.as_of, moment), told(index.log, since=moment)], ["Spoilt"] * 2)
+        os.unlink(path)
+
+
 def check_indexes(count, path):
-    """Steps that a spoilt table of labels or cells leads to are real ones."""
+    """Steps that a spoilt table of labels or cells leads to are real ones; what is lost there is told on opening, and no other call wants it."""
     with Durable(path) as index:
         for label in range(6):
             index.add(FIRST, label, who="ann")
         log = index.log()
+        # (a note about a label lists all steps)
+        index.drop_label(99, same_ok=True, note="gone")
         hand = sqlite3.connect(path, isolation_level=None)
+        whole = [hand.execute(f"SELECT * FROM s2ix_{name}").fetchall() for name in ("label", "cell")]
+        count.expect("what is listed", [len(rows) for rows in whole], [7, 6])
         hand.execute("UPDATE s2ix_label SET label = 3 WHERE label = 4")
         hand.execute("INSERT INTO s2ix_label VALUES (3, 77)")
         hand.execute("DELETE FROM s2ix_cell WHERE step = 2")
         hand.execute("INSERT INTO s2ix_cell VALUES (5, -1)")
         found = [told(index.log, label=3), index.log(label=4), index.log(label=2), index.log(cell=FIRST), index.log(who="ann")]
         count.expect("what they find", found, ["Spoilt", [], [log[2]], log[:1] + log[2:], log])
+        count.expect("a label whose step is lost", (index.restore(4, before=5), index.of_label(4), index.undo()), (1, [], 1))
         hand.execute("DELETE FROM s2ix_label WHERE label = 3 AND step = 5")
         count.expect("put right", index.log(label=3), [log[3]])
         hand.execute("UPDATE s2ix_step SET note = 'x' WHERE id = 4")
         found = [told(index.log, label=3), told(index.log), told(index.entries, 4), told(index.as_of, 4), told(index.as_of, 6), told(index.entries, 5)]
         count.expect("a step that is spoilt", found[:5] + [len(found[5])], ["Spoilt"] * 5 + [1])
+        hand.execute("UPDATE s2ix_step SET note = NULL WHERE id = 4")
         count.expect("steps go on", index.add(SECOND, 1), 1)
-        hand.close()
+    for words in ("DELETE FROM s2ix_label WHERE step = 2", "DELETE FROM s2ix_cell", "INSERT INTO s2ix_cell VALUES (5, 1)", "UPDATE s2ix_label SET step = 3 WHERE label = 1",
+                  "UPDATE s2ix_label SET label = 'x' WHERE label = 1", "UPDATE s2ix_label SET label = 'x' WHERE label = 0",
+                  "UPDATE s2ix_label SET label = -1 WHERE label = 1", "UPDATE s2ix_label SET label = 1.5 WHERE label = 1",
+                  "UPDATE s2ix_label SET step = 2.5 WHERE label = 1", "UPDATE s2ix_cell SET step = 2.5 WHERE step = 2", None):
+        for name, rows in zip(("label", "cell"), whole):
+            hand.execute(f"DELETE FROM s2ix_{name}")
+            hand.executemany(f"INSERT INTO s2ix_{name} VALUES (?, ?)", rows)
+        if words:
+            hand.execute(words)
+        found = told(lambda: Durable(path, read_only=True).close()), told(lambda: Durable(path).close())
+        count.expect(f"lists after {words}", found, ("Spoilt",) * 2 if words else (None, None))
+    hand.close()
 
 
 def bytes_at(path):
@@ -292,7 +373,7 @@ ENDLESS = "WITH RECURSIVE many(n) AS (SELECT 1 UNION ALL SELECT n + 1 FROM many)
 SCHEMAS = [
     "CREATE TRIGGER lost AFTER INSERT ON s2ix_step BEGIN DELETE FROM s2ix_step WHERE id = new.id; END",
     "CREATE TRIGGER wrong AFTER UPDATE ON s2ix_state BEGIN UPDATE s2ix_step SET seal = 0; END",
-    f"DROP TABLE s2ix_state; CREATE VIEW s2ix_state AS {ENDLESS.format('n, n, n, n, n, n, n, n')}",
+    f"DROP TABLE s2ix_state; CREATE VIEW s2ix_state AS {ENDLESS.format('n, n, n, n, n, n, n, n, n, n')}",
     f"DROP TABLE s2ix_saved; CREATE VIEW s2ix_saved AS {ENDLESS.format('n, n, n, n, n, n')}",
     "CREATE TABLE s2ix_mine (a)",
     "CREATE TABLE S2IX_mine (a)",
@@ -430,6 +511,6 @@ def check_all(count, folder):
     """All of them, in a folder of their own. Returns how many pages and bytes there were."""
     folder = f"{folder}/spoilt"
     os.mkdir(folder)
-    for check in (check_spoilt, check_logs_bytes, check_schemas, check_form_1):
+    for check in (check_spoilt, check_gone, check_seals, check_logs_bytes, check_schemas, check_form_1):
         check(count, folder)
     return check_pages(count, folder), check_bytes(count, folder)

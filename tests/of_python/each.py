@@ -11,8 +11,8 @@ import time
 import types
 from array import array
 
-import plain_cells as plain
-import timers
+from models import plain_cells as plain
+from of_python import timers
 from s2ix import Closed, Index, NoCell, NoSpan, S2ixError, batches, beside, library, token_of
 
 FIRST, SECOND, FACE, LEAF, OTHER = 0x0400000000000000, 0x0C00000000000000, 0x1000000000000000, 0x0400000000000001, 0xBFFFFFFFFFFFFFFF

@@ -6,9 +6,9 @@ import subprocess
 import sys
 import traceback
 
-TOP = os.path.dirname(os.path.dirname(os.path.realpath(__file__)))
-sys.path[:0] = [f"{TOP}/clients/python"]
-from s2ix import Durable  # noqa: E402
+from s2ix import Durable
+
+TOP = os.path.dirname(os.path.dirname(os.path.dirname(os.path.realpath(__file__))))
 
 FIRST, SECOND, FACE = 0x0400000000000000, 0x0C00000000000000, 0x1000000000000000
 
@@ -26,11 +26,21 @@ class Count:
             print(f"{name}: {found!r} in place of {wanted!r}"[:600])
 
 
+def room():
+    """Where files of a test go: to memory, if there is 1 GB for them and libraries may lie there, since a disk is waited for at each step."""
+    try:
+        found = os.statvfs("/dev/shm")
+    except OSError:
+        return None
+    is_wide = found.f_bavail * found.f_frsize >= 1 << 30 and not found.f_flag & os.ST_NOEXEC
+    return "/dev/shm" if is_wide and os.access("/dev/shm", os.W_OK) else None
+
+
 def told(call, *given, **named):
-    """What a call answers, or the name of what it raises."""
+    """What a call answers, or the name of what it raises, which may be an interrupt that is told late."""
     try:
         return call(*given, **named)
-    except Exception as raised:  # noqa: BLE001
+    except (Exception, KeyboardInterrupt) as raised:  # noqa: BLE001
         return type(raised).__name__
 
 

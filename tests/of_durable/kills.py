@@ -8,12 +8,14 @@ import select
 import signal
 import time
 
-from durable_tools import FIRST, child, rest_of, shown, told
-from plain_model import Model
-from random_lines import Writer
+from models.plain_model import Model
+from models.random_lines import Writer
+from of_durable.tools import FIRST, child, rest_of, shown, told
 from s2ix import Durable
 
-KILLS, FOLLOWED, MOMENTS, KEPT = 200, 2_000, 1_000, 40
+IS_LONG = os.environ.get("S2IX_LONG", "") not in ("", "0")
+KILLS, MOMENTS = (500, 1_000) if IS_LONG else (60, 150)
+FOLLOWED, KEPT = 2_000, 40
 
 
 def text(lines):

@@ -1,7 +1,7 @@
 """Readers of dumps and journals, written from docs/FORMATS.md alone, to compare the program with."""
 import re
 
-from plain_cells import cell_spelled, token_of
+from models.plain_cells import cell_spelled, token_of
 
 NUMBER = re.compile(rb"0|[1-9][0-9]*")
 MOST_LABEL, MOST_COUNT, MOST_PAIRS, MOST_CHANGES, MOST_ENTRIES = 2147483647, 4294967295, 1000000, 100000, 2000000

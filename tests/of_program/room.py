@@ -3,8 +3,8 @@ import os
 import resource
 import subprocess
 
-HERE = os.path.dirname(os.path.realpath(__file__))
-PROGRAM = os.path.join(os.path.dirname(HERE), "crates/s2ix/out/s2ix")
+TOP = os.path.dirname(os.path.dirname(os.path.dirname(os.path.realpath(__file__))))
+PROGRAM = f"{TOP}/crates/s2ix/out/s2ix"
 
 
 class Ended:
@@ -22,7 +22,7 @@ class Room:
 
     def __init__(self, path):
         self.path, self.shim, self.passed, self.failed = path, f"{path}/refuse.so", 0, 0
-        subprocess.run(["cc", "-O2", "-shared", "-fPIC", "-o", self.shim, f"{HERE}/refuse.c"], check=True)
+        subprocess.run(["cc", "-O2", "-shared", "-fPIC", "-o", self.shim, f"{TOP}/tests/preloaded/refuse.c"], check=True)
 
     def write(self, name, text):
         with open(f"{self.path}/{name}", "wb") as file:

@@ -8,7 +8,7 @@ import sys
 import threading
 import time
 
-from durable_tools import FACE, told
+from of_durable.tools import FACE, told
 from s2ix import Durable, Index
 
 RUNS, STEPS = 40, 30

@@ -10,7 +10,7 @@ import re
 import resource
 import subprocess
 
-TOP = os.path.dirname(os.path.dirname(os.path.realpath(__file__)))
+TOP = os.path.dirname(os.path.dirname(os.path.dirname(os.path.realpath(__file__))))
 WELL, NO_SET_UP = "\ntest result: ok\n", "no memory for the set-up"
 # A step of a store tells of which kind its error is; a sink in memory that has no room for a text fails.
 TOLD = re.compile(r"refused: (OutOfMemory|(Edit|Undo|Redo)\(OutOfMemory\)|Write)\n")
@@ -21,20 +21,20 @@ TOLD = re.compile(r"refused: (OutOfMemory|(Edit|Undo|Redo)\(OutOfMemory\)|Write)
 COUNTED = [
     ("s2ix_bag_tests", "refused_growths::nothing", "refused_growths::an_empty_bag", 0),
     ("s2ix_bag_tests", "refused_growths::a_bag", "refused_growths::a_copied_bag", 0),
-    ("s2ix_bag_tests", "refused_growths::a_bag_and_a_change", "refused_growths::a_changed_bag", 8),
+    ("s2ix_bag_tests", "refused_growths::a_bag_and_a_change", "refused_growths::a_changed_bag", 7),
     ("s2ix_text_tests", "refused_growths::a_dump_of_a_pair", "refused_growths::a_dump_of_nine_pairs", 0),
     ("s2ix_text_tests", "refused_growths::a_change_of_a_pair", "refused_growths::a_change_of_nine_pairs", 0),
     ("s2ix_table_tests", "refused_growths::a_bag", "refused_growths::a_face_of_a_bag", 0),
     ("s2ix_table_tests", "refused_growths::a_table_in_parts", "refused_growths::a_copied_table_in_parts", 5),
     ("s2ix_edit_tests", "refused_tests::refused_regions", "refused_tests::refused_regions_after_a_forget", 0),
     ("s2ix_edit_tests", "refused_tests::refused_regions", "refused_tests::refused_regions_after_older_are_forgotten", 0),
-    ("s2ix_edit_tests", "refused_growths::a_store_of_a_face", "refused_growths::an_edit_of_a_face", 28),
-    ("s2ix_edit_tests", "refused_growths::an_edit_of_a_face", "refused_growths::an_undo_of_a_face", 24),
-    ("s2ix_edit_tests", "refused_growths::an_undo_of_a_face", "refused_growths::a_redo_of_a_face", 22),
+    ("s2ix_edit_tests", "refused_growths::a_store_of_a_face", "refused_growths::an_edit_of_a_face", 27),
+    ("s2ix_edit_tests", "refused_growths::an_edit_of_a_face", "refused_growths::an_undo_of_a_face", 23),
+    ("s2ix_edit_tests", "refused_growths::an_undo_of_a_face", "refused_growths::a_redo_of_a_face", 21),
     ("s2ix_edit_tests", "refused_growths::a_store_of_six_faces", "refused_growths::a_copied_store_of_six_faces", 5),
-    ("s2ix_edit_tests", "refused_growths::a_store_of_six_faces", "refused_growths::an_edit_beside_five_faces", 28),
-    ("s2ix_edit_tests", "refused_growths::an_edit_beside_five_faces", "refused_growths::an_undo_beside_five_faces", 24),
-    ("s2ix_edit_tests", "refused_growths::an_undo_beside_five_faces", "refused_growths::a_redo_beside_five_faces", 22),
+    ("s2ix_edit_tests", "refused_growths::a_store_of_six_faces", "refused_growths::an_edit_beside_five_faces", 27),
+    ("s2ix_edit_tests", "refused_growths::an_edit_beside_five_faces", "refused_growths::an_undo_beside_five_faces", 23),
+    ("s2ix_edit_tests", "refused_growths::an_undo_beside_five_faces", "refused_growths::a_redo_beside_five_faces", 21),
 ]
 
 

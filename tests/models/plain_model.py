@@ -2,7 +2,7 @@
 and finds each answer the longest way round."""
 import re
 
-from plain_cells import (
+from models.plain_cells import (
     LEAF_LEVEL, cell_spelled, children_at, common, do_meet, end_of, first_leaf, last_leaf, level_of, neighbors_of, normal, parent_at, positions_of,
     square_of, token_of, without,
 )

@@ -1,14 +1,14 @@
 #!/usr/bin/env node
 // Runs the scripts of a page of examples/draw on a sheet of its own, without a browser, at each step of the page.
 //
-//   tests/page_steps.js PAGE LOOK ..
+//   tests/of_drawn_page/steps.js PAGE LOOK ..
 //
 // Of each look some steps are gone back, then all forth and back at once. A step fills nothing but what lies close to the cells that it
 // changes, puts in or takes out elements only for these and for numbers that move, and leaves the picture that is drawn if the page begins
 // there. No two numbers lie over one another. It prints what isn't so.
 "use strict";
 const fs = require("node:fs"), path = require("node:path"), vm = require("node:vm");
-const EXAMPLES = path.join(__dirname, "..", "examples"), SCRIPTS = ["page_cells.js", "page_squares.js", "page_picture.js"];
+const EXAMPLES = path.join(__dirname, "..", "..", "examples"), SCRIPTS = ["page_cells.js", "page_squares.js", "page_picture.js"];
 // The room for the picture, how many points of the sheet a pixel is wide, and how many steps are gone back one by one.
 const ROOM = 320, FINE = 2, MOST_STEPS = 8;
 

@@ -3,7 +3,7 @@ import math
 import random
 from functools import partial
 
-import map_zones
+from of_maps import zone_model
 
 # Quarters, each with about its middle, as latitude and longitude.
 QUARTERS = {
@@ -55,7 +55,7 @@ def winding(ring):
 
 
 def zone(known, name, ring, **properties):
-    return map_zones.feature(known, [[ring]], {"name": name, **properties})
+    return zone_model.feature(known, [[ring]], {"name": name, **properties})
 
 
 def history():

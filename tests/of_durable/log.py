@@ -1,17 +1,20 @@
 """The log of s2ix.Durable: who did what, what each step changed, any moment again, a label as it was, what is forgotten, and a caller's own
 tables. `tests/durable` runs it."""
+import contextlib
 import faulthandler
 import os
 import random
+import signal
 import sqlite3
 import threading
 import time
 from datetime import datetime, timedelta, timezone
+from unittest import mock
 
-from durable_tools import FACE, FIRST, SECOND, child, in_file, rest_of, shown, told, words_of
+from of_durable.tools import FACE, FIRST, SECOND, child, in_file, rest_of, shown, told, words_of
 from s2ix import BelowZero, Durable, Index
 
-WALKED = 400
+WALKED, STOPPED = 400, 150
 
 
 class Note(str):
@@ -141,6 +144,42 @@ def check_asked(count, folder):
         early, late = datetime(1970, 1, 1, tzinfo=timezone.utc), datetime.now(timezone.utc) + timedelta(days=1)
         count.expect("before all and after all", (index.as_of(early).dump(), index.as_of(late).dump()), (Index().dump(), index.dump()))
         count.expect("no step then", (index.log(before=early), index.log(since=late)), ([], []))
+
+
+class Clock:
+    """A clock that shows what it is told."""
+
+    def __init__(self, seconds):
+        self.seconds = seconds
+
+    def time_ns(self):
+        return self.seconds * 1_000_000_000
+
+
+def check_clocks(count, folder):
+    """A clock is set back, and the file is opened again: no step is earlier than the one before it, so each is found by its time."""
+    path, clock = f"{folder}/clocks.db", Clock(1000)
+    with mock.patch("s2ix.kept.time", clock):
+        for seconds in (1000, 1010, 1020, 990, 1005, 1030, 1020, 1040):
+            clock.seconds = seconds
+            with Durable(path) as index:
+                index.add(FIRST, seconds - 990)
+    with Durable(path) as index:
+        log = index.log()
+        count.expect("times of a clock that was set back", [int(each.time.timestamp()) for each in log], [1000, 1010, 1020, 1020, 1020, 1030, 1030, 1040])
+        for number, each in enumerate(log):
+            moment, same = each.time, [other.id for other in log if other.time == each.time]
+            found = [step.id for step in index.log(since=moment)], [step.id for step in index.log(before=moment)], index.as_of(moment).copies()
+            count.expect(f"the time of step {number + 1}", found, ([*range(same[0], 9)], [*range(1, same[0])], index.as_of(same[-1]).copies()))
+    with Durable(path) as index, mock.patch("s2ix.kept.time", clock):
+        for seconds, is_kept in ((2000, True), (2010, False)):
+            clock.seconds = seconds
+            with contextlib.suppress(ZeroDivisionError), index.transaction() as connection:
+                connection.execute(f"CREATE TABLE mine{seconds} (a)")
+                is_kept or 1 / 0
+        clock.seconds = 1050
+        index.add(SECOND, 1)
+        count.expect("a clock that was wrong while no step was made", int(index.log()[-1].time.timestamp()), 1050)
 
 
 def check_restores(count, folder):
@@ -334,6 +373,59 @@ def check_transactions(count, folder):
         count.expect("compact", (len(seen_rows(path)), [each.id for each in index.log()]), (3, [2, 3, 4]))
 
 
+def check_ended(count, folder):
+    """SQL rolls a caller's transaction back: what is written after that isn't kept either."""
+    path = f"{folder}/ended.db"
+    with Durable(path) as index:
+        with index.transaction() as connection:
+            connection.execute("CREATE TABLE shop (label INTEGER PRIMARY KEY)")
+            connection.execute("INSERT INTO shop VALUES (?)", (1,))
+        kept, found = shown(index), []
+
+        def write():
+            with index.transaction() as connection:
+                connection.execute("INSERT INTO shop VALUES (?)", (2,))
+                index.add(FIRST, 7)
+                found.append(told(connection.execute, "INSERT OR ROLLBACK INTO shop VALUES (1)"))
+                for words in ("INSERT INTO shop VALUES (3)", "DELETE FROM shop", "CREATE TABLE other (a)"):
+                    found.append(told(connection.execute, words))
+                found.append(told(connection.execute, "INSERT INTO shop VALUES (?)", (4,)))
+                found.append(told(connection.executemany, "INSERT INTO shop VALUES (?)", [(5,), (6,)]))
+
+        count.expect("a transaction that was rolled back", (told(write), found), ("NotKept", ["IntegrityError"] + ["OperationalError"] * 5))
+        count.expect("its rows", (seen_rows(path), shown(index), in_file(path)), ([(1,)], kept, kept))
+        count.expect("steps go on", (index.add(FIRST, 7), in_file(path) == shown(index)), (1, True))
+
+
+def check_stopped(count, folder):
+    """Ctrl-C comes within a caller's statements, and while SQLite asks what they may do: it is raised, and nothing is kept."""
+    path, raised = f"{folder}/stopped.db", []
+
+    def stop(*_):
+        raise KeyboardInterrupt
+
+    before = signal.signal(signal.SIGALRM, stop)
+    with Durable(path, synchronous="NORMAL") as index:
+        with index.transaction() as connection:
+            connection.execute("CREATE TABLE shop (label INTEGER)")
+        kept = shown(index)
+        for step in range(STOPPED):
+            try:
+                with index.transaction() as connection:
+                    index.add(FIRST, 7)
+                    signal.setitimer(signal.ITIMER_REAL, 1e-5 + step % 40 * 5e-6)
+                    until = time.monotonic() + 10
+                    while time.monotonic() < until:
+                        connection.execute(f"INSERT INTO shop VALUES ({step})")
+                        connection.execute(f"SELECT label + {step} FROM shop WHERE label < {step}").fetchall()
+            except BaseException as each:  # noqa: BLE001
+                raised.append(type(each))
+            signal.setitimer(signal.ITIMER_REAL, 0)
+        count.expect("what is raised", set(raised), {KeyboardInterrupt})
+        count.expect("each of them", (len(raised), seen_rows(path), shown(index), in_file(path)), (STOPPED, [], kept, kept))
+    signal.signal(signal.SIGALRM, before)
+
+
 def check_lent(count, folder):
     """A caller sets up the connection as it likes, and another thread reads the log meanwhile: neither disturbs the other, and none waits for
     ever."""
@@ -475,6 +567,15 @@ def check_saved(count, folder):
     with Durable(path) as index:
         count.expect("what they give", (shown(index), index.log() == log), (kept, True))
         count.expect("earlier moments", {number: index.as_of(number).dump() for number in moments}, moments)
+    for words in ("change = replace(change, ' 2 0 1', ' 2 0 2')", "change = NULL", "id = -7"):
+        hand = sqlite3.connect(path, isolation_level=None)
+        [row] = hand.execute("SELECT * FROM s2ix_step WHERE id = 3").fetchall()
+        hand.execute(f"UPDATE s2ix_step SET {words} WHERE id = 3")
+        found = told(lambda: Durable(path, read_only=True).close()), words_of(Durable, path).partition(": its ")[0].partition(": it ")[0]
+        count.expect(f"a change before a saved state: {words}", found, ("Spoilt", f"{path}: the file is spoilt: step {4 if 'id' in words else 3}"))
+        hand.execute("DELETE FROM s2ix_step WHERE id IN (3, -7)")
+        hand.execute(f"INSERT INTO s2ix_step VALUES ({', '.join('?' * len(row))})", row)
+        hand.close()
     for (step,) in saved[1:-1]:
         hand = sqlite3.connect(path, isolation_level=None)
         hand.execute("UPDATE s2ix_saved SET tip = tip + 1 WHERE step = ?", (step,))
@@ -485,12 +586,35 @@ def check_saved(count, folder):
         count.expect(f"a saved state that is spoilt, of step {step}", found, ["Spoilt", True])
 
 
+def check_saved_by_another(count, folder):
+    """A writer that follows another's steps saves states when the other would: not again after the step that the other saved."""
+    path, chance = f"{folder}/another.db", random.Random(4)
+    with Durable(path, synchronous="NORMAL") as first, Durable(path, synchronous="NORMAL") as second, Durable(path, read_only=True) as follower:
+        hand = sqlite3.connect(path, isolation_level=None)
+        for step in range(60):
+            first.add_all([(chance.randrange(1 << 59) << 1 | 1, step, 1) for _ in range(200)])
+            if step % 4 == 3:
+                follower.refresh()
+            second.refresh()
+            [(last,)] = hand.execute("SELECT max(step) FROM s2ix_saved").fetchall()
+            if last == step + 1:
+                with second.transaction() as connection:
+                    connection.execute(f"CREATE TABLE mine{step} (a)")
+                first.refresh()
+        saved = hand.execute("SELECT step FROM s2ix_saved").fetchall()
+        hand.close()
+        follower.refresh()
+        counted = [(each._file.noted.since, each._file.noted.size) for each in (first, second, follower)]
+        count.expect("bytes since the saved state", (len(saved) > 2, counted[1:]), (True, counted[:1] * 2))
+        count.expect("the step of the other then", (second.add(FIRST, 1), first.refresh(), in_file(path) == shown(first)), (1, True, True))
+
+
 def check_all(count, folder):
     """All of them, in a folder of their own."""
     folder = f"{folder}/log"
     os.mkdir(folder)
     for check in (
-        check_logs, check_asked, check_restores, check_same, check_forgotten, check_full, check_stale, check_transactions, check_lent,
-        check_threads, check_waits, check_saved,
+        check_logs, check_asked, check_clocks, check_restores, check_same, check_forgotten, check_full, check_stale, check_transactions,
+        check_ended, check_stopped, check_lent, check_threads, check_waits, check_saved, check_saved_by_another,
     ):
         check(count, folder)

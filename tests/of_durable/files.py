@@ -5,7 +5,6 @@ import contextlib
 import gc
 import os
 import pickle
-import random
 import signal
 import sqlite3
 import subprocess
@@ -13,10 +12,9 @@ import sys
 import tempfile
 import threading
 import time
-import zlib
 from unittest import mock
 
-from durable_tools import FACE, FIRST, SECOND, TOP, child, in_file, ran, rest_of, shown, told, words_of
+from of_durable.tools import FACE, FIRST, SECOND, TOP, child, in_file, ran, rest_of, shown, told, words_of
 from s2ix import Durable, LaterForm, NotKept, Spoilt, index_file, place, refusals
 
 MAKERS, ROUNDS = 4, 20
@@ -33,7 +31,7 @@ def labels_in(path):
 
 def seen_by_another(path):
     """The same, in another process."""
-    said, _ = ran("import sys\nfrom durable_files import labels_in\nprint(repr(labels_in(sys.argv[1])))", path)
+    said, _ = ran("import sys\nfrom of_durable.files import labels_in\nprint(repr(labels_in(sys.argv[1])))", path)
     return ast.literal_eval(said or "None")
 
 
@@ -159,7 +157,7 @@ def check_commits(count, folder):
     """Each call on a file that a step makes fails once, before and after its COMMIT is flushed: what is refused isn't there after a crash. A
     step with the log's frame 4063 needs more of SQLite's shared memory after it is flushed."""
     shim = f"{folder}/refused_files.so"
-    subprocess.run(["cc", "-O2", "-shared", "-fPIC", "-o", shim, f"{TOP}/tests/refused_files.c"], check=True)
+    subprocess.run(["cc", "-O2", "-shared", "-fPIC", "-o", shim, f"{TOP}/tests/preloaded/refused_files.c"], check=True)
     came = set()
     for frames in (0, 4061):
         answer = ran(REFUSED, shim, folder, frames, 0, 0, LD_PRELOAD=shim)[0].split()
@@ -242,6 +240,24 @@ def check_own(count, folder):
     os.utime(folder, ns=(second, second))
     count.expect("a step after a deletion within a second", told(index.add, FIRST, 7), "NotKept")
     index.close()
+
+    # (what copies a folder sets its time as it was)
+    index, path = Durable(f"{folder}/set_back.db"), f"{folder}/set_back.db"
+    index.add(FACE, 1)
+    index.backup(f"{folder}/older.db")
+    for label in (2, 3):
+        index.add(FACE, label)
+        index.compact()
+        time.sleep(0.2)
+    index.add(FACE, 4)
+    index.compact()
+    before = os.stat(folder)
+    os.replace(f"{folder}/older.db", path)
+    os.utime(folder, ns=(before.st_atime_ns, before.st_mtime_ns))
+    words = [words_of(index.add, FIRST, label) for label in (7, 8)]
+    count.expect("steps after an older copy came, and the time was set back", ["another file is at its path" in each for each in words], [True, True])
+    index.close()
+    count.expect("the older copy", seen_by_another(path), [1])
 
     path = f"{folder}/collected.db"
     index = Durable(path)
