@@ -4,8 +4,8 @@ import os
 import sys
 
 sys.path.insert(0, f"{os.path.dirname(os.path.dirname(os.path.realpath(__file__)))}/tests")
-import plain_readers  # noqa: E402
-from plain_model import Model  # noqa: E402
+from models import plain_readers  # noqa: E402
+from models.plain_model import Model  # noqa: E402
 
 # README's session: each line, and what it says.
 FIRST = {
