@@ -27,7 +27,7 @@ S2_CLASSES = ("s2cell_id", "s2cell_index", "s2cell_union")
 S2 = ("-Wl,--copy-dt-needed-entries", "-ls2")
 ARCHIVE = "[signed-by=/usr/share/keyrings/debian-archive-keyring.gpg] http://deb.debian.org/debian"
 PROGRAMS = {"session": ("session", "turns", "s2_side", "read_dump", "scene"), "script": ("script", "read_dump"), "texts": ("texts", "scene"),
-            "edits": ("edits", "scene"), "at_once": ("at_once",), "doors": ("doors", "scene")}
+            "edits": ("edits", "scene"), "at_once": ("at_once",), "doors": ("doors", "scene"), "threads": ("threads", "scene")}
 
 
 def say(text):
@@ -56,8 +56,9 @@ def version_of(package, of="Version"):
     return version if status == "installed" else ""
 
 
-def install_packages():
-    missing = [package for package in PACKAGES if not version_of(package)]
+def install_packages(*packages):
+    """Installs some of Debian's packages, if they are missing."""
+    missing = [package for package in packages if not version_of(package)]
     if not missing:
         return
     as_root = [] if os.geteuid() == 0 else ["sudo"]
@@ -147,7 +148,7 @@ def linked_with(program):
     """What a program is linked with besides its own parts. (liblibc_c.a gives memory to a static library)"""
     if program == "session":
         return [*compiled_s2(), f"{OUT}/libours.a", f"{kept.kit()}/c/liblibc_c.a"]
-    if program in ("edits", "doors"):
+    if program in ("edits", "doors", "threads"):
         return [*compiled_s2(), f"{OUT}/libs2ix.a", "-lpthread"]
     if program == "at_once":
         return [f"{OUT}/libs2ix.a", "-lpthread"]
@@ -169,7 +170,7 @@ def make_all():
     if not shutil.which("rt"):
         sys.exit("bench: there is no rt on the path: README says which toolchain it is of")
     os.makedirs(OUT, exist_ok=True)
-    install_packages()
+    install_packages(*PACKAGES)
     make_s2()
     make_library()
     make_c_library()

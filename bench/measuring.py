@@ -15,6 +15,8 @@ from making import OUT, TOP, say
 Figure = collections.namedtuple("Figure", "ours s2")
 # What S2 doesn't have: the nanoseconds of one operation, the median of many and the most; or their mean, and None.
 Alone = collections.namedtuple("Alone", "middle most")
+# How many points some threads ask together in a second of the clock, and in a second of a processor.
+Rates = collections.namedtuple("Rates", "clock processor")
 # After so many random edits points are asked again.
 CHANGES = 800_000
 MOST_COUNTED = 100_000
@@ -22,6 +24,8 @@ MOST_COUNTED = 100_000
 DEBIAN_PYTHON = "/usr/bin/python3"
 # How often a script's lines are repeated, so that they take long beside a load.
 REPEATS = 5
+# Programs run until no least time has fallen by more than a fiftieth in so many turns, but at most so many turns.
+STILL_TURNS, MOST_TURNS = 5, 30
 SCRIPTS = ("load", "at", "meet 8", "labels 8", "meet 8 apart", "labels 8 apart", "meet 500", "meet 500 apart")
 # The figures of the index have a name of these; the others don't depend on the pairs.
 OF_INDEX = ("adds and build", "build of a table", "load of a dump", "edit with a query", "point", "8 cells", "500 cells", "bytes a pair")
@@ -41,13 +45,20 @@ class Measured:
     def __init__(self, sizes):
         self.sizes = sizes
         self.times, self.programs, self.instructions, self.edits, self.at_once, self.files, self.clusters = {}, {}, {}, {}, {}, {}, {}
-        self.doors = {}
+        self.doors, self.threads = {}, {}
 
     def measure_doors(self, seconds):
         for size in self.sizes:
             say(f"measuring {size:,} pairs from C and through the header for C++")
             for name, count, ours, s2 in session_lines([f"{OUT}/doors", str(size), str(seconds), "time"]):
                 self.doors[name, size] = Figure(ours / count, s2 / count)
+
+    def measure_threads(self, seconds):
+        for size in self.sizes:
+            say(f"measuring threads that ask one index of {size:,} pairs")
+            for line in lines_of([f"{OUT}/threads", str(size), str(seconds)]):
+                name, count, by_clock, by_processor = line.split("\t")
+                self.threads[name, int(count), size] = Rates(float(by_clock), float(by_processor))
 
     def measure_sessions(self, seconds):
         for size in self.sizes:
@@ -157,12 +168,23 @@ def program_times(folder):
             script = file.read()
         if answers(ours, script) != answers(s2, script):
             sys.exit(f"bench: S2 and ours answer differently: the script {name}")
-        turns = [(milliseconds(ours, script * REPEATS), milliseconds(s2, script * REPEATS)) for _ in range(7)]
+        turns = settled(lambda: (milliseconds(ours, script * REPEATS), milliseconds(s2, script * REPEATS)))
         least[name] = [min(side) for side in zip(*turns)]
         # (the middle one of the turns differs from the least by chance alone)
         noise[name] = [sorted(side)[len(side) // 2] - min(side) for side in zip(*turns)]
     load = least.pop("load")
     return {"load": Figure(*load), **{name: beyond(load, took, noise["load"], noise[name]) for name, took in least.items()}}
+
+
+def settled(turn):
+    """What turns take, ours and S2's, until the least times have settled."""
+    turns = [turn() for _ in range(STILL_TURNS)]
+    while len(turns) < MOST_TURNS:
+        before = [min(side) for side in zip(*turns)]
+        turns += [turn() for _ in range(STILL_TURNS)]
+        if all(min(side) > 0.98 * least for side, least in zip(zip(*turns), before)):
+            break
+    return turns
 
 
 def beyond(load, took, *noises):

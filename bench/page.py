@@ -14,6 +14,8 @@ UNITS = {"adds and build": "a pair", "build of a table": "a pair", "load of a du
 # Who asks for many points at once, and beside whom.
 AT_ONCE_ROWS = {"C, 1": ("from C", "C, 1"), "C, 4": ("from C by four threads", "C, 1"), "Python, 1": ("from Python", "C, 1"),
                 "Python, 4": ("from Python by four threads", "Python, 1")}
+# Threads that ask by the same program over both.
+S2, OURS = "S2, iterators", "ours, iterators"
 FILES = {"FULL": "edits a second, `synchronous=\"FULL\"`", "NORMAL": "edits a second, `synchronous=\"NORMAL\"`", "in memory": "edits a second of an `Index`, which has no file",
          "open": "ms to open the file with 10,000 changes", "open compact": "ms to open it once `compact` has forgotten these"}
 
@@ -57,6 +59,17 @@ def named(name):
 
 def doors_table(measured):
     return table_of(measured.doors, names_of(measured.doors), measured.sizes, "ns, ours : S2")
+
+
+def threads_table(measured):
+    """For each name how many millions of points some threads ask together."""
+    counts = sorted({count for _, count, _ in measured.threads})
+    yield f"| millions of points a second, by {' · '.join(map(str, counts))} threads | {' | '.join(f'{size:,}' for size in measured.sizes)} |"
+    yield f"|---|{'---|' * len(measured.sizes)}"
+    for name in dict.fromkeys(name for name, _, _ in measured.threads):
+        for words, rate in (("", "clock"), (", a processor's", "processor")):
+            cells = [" · ".join(digits(getattr(measured.threads[name, count, size], rate) / 1e6) for count in counts) for size in measured.sizes]
+            yield f"| {name}{words} | {' | '.join(cells)} |"
 
 
 def index_table(measured):
@@ -132,7 +145,7 @@ def instructions_table(measured):
 def tables(measured):
     """All tables as one text."""
     parts = [
-        doors_table(measured), index_table(measured), at_once_table(measured), edits_table(measured), ids_table(measured),
+        doors_table(measured), threads_table(measured), index_table(measured), at_once_table(measured), edits_table(measured), ids_table(measured),
         programs_table(measured), files_table(measured), clusters_table(measured),
     ]
     if measured.instructions:
@@ -150,6 +163,16 @@ def ahead(measured):
             told = [ratio(figures[name, size]) + (f" at {size:,}" if by_size else "") for size in behind]
             if told:
                 yield f"- {start}{name}: {', '.join(told)}{' pairs' if by_size else ''}"
+    yield from ahead_by_threads(measured)
+
+
+def ahead_by_threads(measured):
+    """Where S2's threads ask more points a second than ours do by the same program."""
+    for count in sorted({count for _, count, _ in measured.threads}):
+        both = [(size, *(measured.threads[name, count, size].clock for name in (OURS, S2))) for size in measured.sizes]
+        told = [f"{ours / s2:.2f} at {size:,}" for size, ours, s2 in both if ours < s2]
+        if told:
+            yield f"- points a second, {count} thread{'s' if count > 1 else ''} by iterators, ours to S2's: {', '.join(told)} pairs"
 
 
 def said_by(*words):
@@ -199,7 +222,7 @@ def write(measured):
         counted = "\n".join(["", "## Instructions", "", COUNTED, "", *instructions_table(measured), ""])
     text = PAGE.format(
         machine=machine(), system=system(), s2=making.version_of("libs2-dev"), compiler=said_by("g++", "--version").splitlines()[0],
-        doors=joined(doors_table(measured)), index=joined(index_table(measured)), at_once=joined(at_once_table(measured)),
+        doors=joined(doors_table(measured)), threads=joined(threads_table(measured)), index=joined(index_table(measured)), at_once=joined(at_once_table(measured)),
         edits=joined(edits_table(measured)),
         ids=joined(ids_table(measured)), programs=joined(programs_table(measured)), files=joined(files_table(measured)),
         clusters=joined(clusters_table(measured)), python=platform.python_version(), numpy=numpy_version(), sqlite=sqlite3.sqlite_version,
@@ -213,8 +236,33 @@ that memory is waited for."""
 
 PAGE = """# Beside S2
 
-`bench/run --page` wrote this page. It measures this index and Google's S2 in one process, over the same pairs and targets, and compares
-what they answer. Run it on your own machine: it sets itself up, and says what it does.
+What a caller meets, from C++ by S2's names (`clients/cpp/s2ix.hpp`) and from C, beside Google's S2 over the same pairs and targets, by one
+thread. Each figure is the ratio of ours to S2's, and what it is made of, ours : S2's. Below 1 ours is ahead; a bold ratio is above 1.
+
+{doors}
+
+- *VisitIntersectingCells*, *GetIntersectingLabels*: the same program over both, which hands over an `S2CellUnion`. Ours returns a
+  `LabelSet`, one rising list, S2 absl's `flat_hash_set`; into a set that is passed, both fill absl's.
+- *RangeIterator and ContentsIterator*: new ones for each point.
+- *From C*: what is found goes into one buffer of the caller's. It is beside what S2's names do above.
+
+## Threads that ask one index
+
+{threads}
+
+All threads ask one index, which S2 can't edit. *A processor's*: in a second for which a processor was at work for a thread; the other rows are
+by the clock, so they show what else the machine did. The figures are the most of some runs of 50 ms. *Iterators*: a `RangeIterator` and a
+`ContentsIterator` for each point. *Edited*: another thread adds a pair or takes it away each 10 ms. A copy that a thread asks is made anew
+after each edit.
+
+## Where S2 is ahead
+
+{ahead}
+
+## How it was measured
+
+`bench/run --page` wrote this page. It measures this index and S2 in one process, and compares what they answer. Run it on your own machine: it
+sets itself up, and says what it does.
 
 - The machine: {machine}.
 - The system: {system}.
@@ -222,25 +270,10 @@ what they answer. Run it on your own machine: it sets itself up, and says what i
   `S2CellIndex` are compiled from Debian's source, as the bench's own C++ is: with `-O2 -DNDEBUG` by {compiler}.
 - Ours: a static library that the toolchain builds as it builds the program, by LLVM with `-O3`.
 
-The tables give the ratio of ours to S2's, and both figures behind it, ours : S2's. Below 1 ours is ahead; a bold ratio is above 1. Times
-are of the processor, and each is the least of many turns that S2 and ours take one after the other.
+Unless a table says more, times are of the processor, and each is the least of many turns that S2 and ours take one after the other. The
+difference of two times is *too short to tell* if it is not above their noise.
 
-## Where S2 is ahead
-
-{ahead}
-
-## The doors
-
-{doors}
-
-What a caller meets, from C++ by S2's names (`clients/cpp/s2ix.hpp`) and from C, beside S2's own `S2CellIndex`; one thread.
-
-- *VisitIntersectingCells*, *GetIntersectingLabels*: the same program over both, which hands over an `S2CellUnion`. Ours returns a
-  `std::unordered_set`, S2 absl's `flat_hash_set`; into a set that is passed, both fill absl's.
-- *RangeIterator and ContentsIterator*: new ones for each point.
-- *From C*: the rows go into one buffer of the caller's. They are beside S2's `VisitIntersectingCells`.
-
-## The index
+## Inside: the index
 
 {index}
 
@@ -277,7 +310,8 @@ The last four rows are by the clock, the best of nine calls. The figures in brac
 
 S2 has neither. Each edit is one call of the library for C, on a store that can undo it. A figure is the median of 50 calls or more, with the
 most in brackets; one without brackets is a mean. Pairs are taken away and put back in turns. 50 cells of one town get a label of their own,
-which is renamed, grows and goes. Points are asked before and after 800,000 random edits.
+which is renamed, grows and goes. Before a *cold* copy 64 MB of other memory are written. Points are asked before and after 800,000 random
+edits.
 
 ## Single cells and unions
 

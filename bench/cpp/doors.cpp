@@ -11,11 +11,13 @@
 #include <cstdlib>
 #include <cstring>
 #include <functional>
+#include <numeric>
 #include <string>
 #include <utility>
 #include <vector>
 
 #include "absl/container/flat_hash_set.h"
+#include "asked.h"
 #include "orders.h"
 #include "s2/s2cell_id.h"
 #include "s2/s2cell_index.h"
@@ -49,15 +51,6 @@ Unions UnionsOf(const std::vector<uint64_t>& numbers, size_t step, size_t size) 
 }
 
 template <class Index>
-void Fill(Index& index, const Scene& scene) {
-  for (size_t k = 0; k < scene.pair_cells.size(); ++k) index.Add(S2CellId(scene.pair_cells[k]), static_cast<int>(scene.pair_labels[k]));
-  index.Build();
-}
-
-// What a pair adds to a sum.
-uint64_t Worth(S2CellId cell, int label) { return cell.id() + static_cast<uint64_t>(label); }
-
-template <class Index>
 uint64_t Visited(const Index& index, const Unions& targets) {
   uint64_t sum = 0;
   for (const S2CellUnion& target : targets) {
@@ -86,18 +79,6 @@ uint64_t LabelsInto(const Index& index, const Unions& targets) {
   for (const S2CellUnion& target : targets) {
     index.GetIntersectingLabels(target, &labels);
     for (int label : labels) sum += static_cast<uint64_t>(label);
-  }
-  return sum;
-}
-
-template <class Index>
-uint64_t Points(const Index& index, const std::vector<S2CellId>& leaves) {
-  uint64_t sum = 0;
-  for (S2CellId leaf : leaves) {
-    typename Index::RangeIterator range(&index);
-    range.Seek(leaf);
-    typename Index::ContentsIterator contents(&index);
-    for (contents.StartUnion(range); !contents.done(); contents.Next()) sum += Worth(contents.cell_id(), contents.label());
   }
   return sum;
 }
@@ -175,18 +156,17 @@ class Sides {
         hundred_(UnionsOf(scene.many, kManyCells, kHundred)),
         points_(scene.leaves.begin(), scene.leaves.end()),
         pairs_(scene.pair_cells.size()),
-        rows_(pairs_) {
+        rows_(pairs_),
+        labels_(pairs_) {
     Fill(ours_, scene);
     Fill(s2_, scene);
+    handle_ = ours_.index().handle();
   }
 
   // The doors point here.
   std::vector<Door> Doors() {
     return {
         {"nothing", 1, [] { return 0; }, [] { return 0; }},
-        Call("from C, s2ix_at", leaves_, At),
-        Call("from C, s2ix_meet_from, 8 cells", few_, MeetFrom),
-        Call("from C, s2ix_meet_from, 100 cells", hundred_, MeetFrom),
         Ask("VisitIntersectingCells, a leaf", leaves_.size(), [this](auto& index) { return Visited(index, leaves_); }),
         Ask("VisitIntersectingCells, 8 cells", few_.size(), [this](auto& index) { return Visited(index, few_); }),
         Ask("VisitIntersectingCells, 100 cells", hundred_.size(), [this](auto& index) { return Visited(index, hundred_); }),
@@ -197,15 +177,65 @@ class Sides {
         Ask("RangeIterator and ContentsIterator, a point", points_.size(), [this](auto& index) { return Points(index, points_); }),
         Ask("all by RangeIterator, a range", ours_.index().range_count(), [](auto& index) { return Ranges(index); }),
         Ask("all by CellIterator, a pair", pairs_, [](auto& index) { return Cells(index); }),
+        Call("from C, s2ix_at", leaves_, At, [this] { return Visited(s2_, leaves_); }),
+        Call("from C, s2ix_meet_from, 8 cells", few_, MeetFrom, [this] { return Visited(s2_, few_); }),
+        Call("from C, s2ix_meet_from, 100 cells", hundred_, MeetFrom, [this] { return Visited(s2_, hundred_); }),
+        Call("from C, s2ix_labels, 8 cells", few_, LabelsOf, [this] { return Labels(s2_, few_); }),
+        Call("from C, s2ix_labels, 100 cells", hundred_, LabelsOf, [this] { return Labels(s2_, hundred_); }),
+        Call("from C, s2ix_find and s2ix_contents, a point", leaves_, Contents, [this] { return Points(s2_, points_); }),
+        {"from C, all by s2ix_ranges, a range", ours_.index().range_count(), [this] { return RangesFromC(); }, [this] { return Ranges(s2_); }},
+        {"from C, all by s2ix_pairs, a pair", pairs_, [this] { return PairsFromC(); }, [this] { return Cells(s2_); }},
     };
   }
 
  private:
-  static uint32_t At(s2ix_handle* handle, const uint64_t* cells, size_t, s2ix_row* rows, size_t room, size_t* number) {
-    return s2ix_at(handle, *cells, rows, room, number);
+  using Target = std::vector<uint64_t>;
+
+  // What calls of s2ix.h find for a target, as a sum; 0 if one is refused.
+  uint64_t SumOf(uint32_t status, size_t number) const {
+    uint64_t sum = 0;
+    for (size_t k = 0; k < number && status == S2IX_DONE; ++k) sum += rows_[k].cell + rows_[k].label;
+    return sum;
   }
-  static uint32_t MeetFrom(s2ix_handle* handle, const uint64_t* cells, size_t size, s2ix_row* rows, size_t room, size_t* number) {
-    return s2ix_meet_from(handle, cells, size, 0, rows, room, number);
+  static uint64_t At(Sides& at, const Target& cells) {
+    size_t number = 0;
+    const uint32_t status = s2ix_at(at.handle_, cells[0], at.rows_.data(), at.rows_.size(), &number);
+    return at.SumOf(status, number);
+  }
+  static uint64_t MeetFrom(Sides& at, const Target& cells) {
+    size_t number = 0;
+    const uint32_t status = s2ix_meet_from(at.handle_, cells.data(), cells.size(), 0, at.rows_.data(), at.rows_.size(), &number);
+    return at.SumOf(status, number);
+  }
+  static uint64_t LabelsOf(Sides& at, const Target& cells) {
+    size_t number = 0;
+    if (s2ix_labels(at.handle_, cells.data(), cells.size(), at.labels_.data(), at.labels_.size(), &number) != S2IX_DONE) return 0;
+    return std::accumulate(at.labels_.begin(), at.labels_.begin() + static_cast<ptrdiff_t>(number), uint64_t{0});
+  }
+  static uint64_t Contents(Sides& at, const Target& cells) {
+    size_t place = 0, number = 0;
+    uint64_t start = 0, limit = 0;
+    uint32_t status = s2ix_find(at.handle_, cells[0], &place, &start, &limit);
+    if (status == S2IX_DONE) status = s2ix_contents(at.handle_, place, 0, at.rows_.data(), at.rows_.size(), &number);
+    return at.SumOf(status, number);
+  }
+  uint64_t RangesFromC() {
+    s2ix_leaf_range ranges[512] = {};
+    uint64_t sum = 0;
+    size_t number = 0;
+    for (size_t from = 0; s2ix_ranges(handle_, from, ranges, 512, &number) == S2IX_DONE && number > 0; from += number) {
+      for (size_t k = 0; k < number; ++k) sum += ranges[k].start + ranges[k].is_empty;
+    }
+    return sum;
+  }
+  uint64_t PairsFromC() {
+    constexpr size_t page = 1024;
+    uint64_t sum = 0;
+    size_t number = 0;
+    for (size_t from = 0; s2ix_pairs(handle_, from, rows_.data(), std::min(page, rows_.size()), &number) == S2IX_DONE && number > 0; from += number) {
+      for (size_t k = 0; k < number; ++k) sum += rows_[k].count * Worth(S2CellId(rows_[k].cell), static_cast<int>(rows_[k].label));
+    }
+    return sum;
   }
 
   // The same program over both.
@@ -214,19 +244,15 @@ class Sides {
     return {name, count, [this, program] { return program(std::as_const(ours_)); }, [this, program] { return program(std::as_const(s2_)); }};
   }
 
-  // A call of s2ix.h for each target, beside a visit of S2.
-  Door Call(const char* name, const Unions& targets, decltype(MeetFrom)* call) {
-    return {name, targets.size(), [this, call, numbers = NumbersOf(targets)] { return FromC(numbers, call); },
-            [this, &targets] { return Visited(s2_, targets); }};
-  }
-  uint64_t FromC(const Numbers& targets, decltype(MeetFrom)* call) {
-    uint64_t sum = 0;
-    for (const std::vector<uint64_t>& target : targets) {
-      size_t number = 0;
-      if (call(ours_.index().handle(), target.data(), target.size(), rows_.data(), rows_.size(), &number) != S2IX_DONE) return 0;
-      for (size_t k = 0; k < number; ++k) sum += rows_[k].cell + rows_[k].label;
-    }
-    return sum;
+  // Calls of s2ix.h for each target, beside what S2 does.
+  Door Call(const char* name, const Unions& targets, decltype(MeetFrom)* call, std::function<uint64_t()> s2) {
+    return {name, targets.size(),
+            [this, call, numbers = NumbersOf(targets)] {
+              uint64_t sum = 0;
+              for (const Target& target : numbers) sum += call(*this, target);
+              return sum;
+            },
+            std::move(s2)};
   }
 
   Ours ours_;
@@ -235,6 +261,8 @@ class Sides {
   std::vector<S2CellId> points_;
   size_t pairs_;
   std::vector<s2ix_row> rows_;
+  std::vector<uint32_t> labels_;
+  s2ix_handle* handle_;
 };
 
 }  // namespace

@@ -27,6 +27,8 @@ constexpr uint32_t kMostPairs = 1000000, kMostCopies = 1000000, kMostChanges = 1
 // So many pairs fewer than a store may hold leave room for those that are added.
 constexpr size_t kRoom = 1000;
 constexpr size_t kTurns = 200;
+// What is written between copies, so that little of a store is left in the caches that a processor has for itself.
+constexpr size_t kBytesOfCaches = size_t{64} << 20;
 constexpr uint32_t kOwnLabel = 2000000000;
 
 double Nanoseconds() {
@@ -166,6 +168,25 @@ void TimeRegions(Store& store, const Scene& scene) {
   drops.Print("drop of that label");
 }
 
+// Copies of a store after edits in many places, when other memory has come into the caches.
+void TimeColdCopies(Store& store, const std::vector<s2ix_row>& rows) {
+  std::mt19937_64 random(23);
+  std::vector<uint64_t> other(kBytesOfCaches / sizeof(uint64_t));
+  Timed copies;
+  for (size_t k = 0; k < kTurns / 4; ++k) {
+    for (size_t n = 0; n < 25; ++n) {
+      const s2ix_row& row = rows[random() % rows.size()];
+      store.Remove(row.cell, row.label);
+      store.Add(row.cell, row.label);
+    }
+    for (uint64_t& number : other) number += k;
+    Store copy;
+    copies.Run([&] { Expect(s2ix_copy(store.get(), copy.get()), "copy"); });
+  }
+  store.Forget();
+  copies.Print("a copy after 50 edits, cold");
+}
+
 void TimeCopies(Store& store, const std::vector<s2ix_row>& rows) {
   std::mt19937_64 random(11);
   Timed copies, edits;
@@ -177,6 +198,7 @@ void TimeCopies(Store& store, const std::vector<s2ix_row>& rows) {
   }
   copies.Print("a copy");
   edits.Print("the first edit of a copy");
+  TimeColdCopies(store, rows);
 }
 
 // A reader's copy of a store, which an editor replaces.

@@ -119,6 +119,22 @@ struct Own {
     index.ForceBuild();
   }
 
+  size_t Bytes() const {
+    size_t bytes = index.SpaceUsed();
+    for (const auto& polygon : polygons) bytes += polygon->SpaceUsed();
+    return bytes;
+  }
+
+  // Takes a shape away, puts one like it, and asks a point of it; returns the number of the new one.
+  int Redraw(int number) {
+    const S2Point point = polygons[number]->loop(0)->vertex(0);
+    index.Release(number);
+    polygons.push_back(std::unique_ptr<S2Polygon>(polygons[number]->Clone()));
+    const int put = index.Add(std::make_unique<S2Polygon::Shape>(polygons.back().get()));
+    MakeS2ContainsPointQuery(&index).Contains(point);
+    return put;
+  }
+
   Answer AtEach(const Scene& scene) {
     Answer answer;
     auto query = MakeS2ContainsPointQuery(&index);
@@ -176,7 +192,19 @@ void MeasureSet(const Scene& scene, const std::vector<Shape>& shapes, const Answ
   }
 }
 
-void MeasurePoints(const Scene& scene) {
+template <typename Item>
+void WriteItems(const std::string& path, const std::vector<Item>& items) {
+  std::FILE* file = std::fopen(path.c_str(), "wb");
+  Require(file != nullptr && std::fwrite(items.data(), sizeof(Item), items.size(), file) == items.size() && std::fclose(file) == 0,
+          "items aren't written");
+}
+
+void WriteAnswer(const Answer& answer, const std::string& folder) {
+  WriteItems(folder + "/ends", answer.ends);
+  WriteItems(folder + "/found", answer.found);
+}
+
+void MeasurePoints(const Scene& scene, const std::string& folder) {
   const size_t points = scene.latitudes.size();
   const double begin = Seconds();
   Own own(scene);
@@ -185,15 +213,50 @@ void MeasurePoints(const Scene& scene) {
   const double seconds = Best(3, [&] { wanted = own.AtEach(scene); });
   std::printf("S2ContainsPointQuery: %.2f million points a second, %zu pairs of %zu points\n", points / seconds / 1e6,
       wanted.found.size(), points);
+  if (!folder.empty()) WriteAnswer(wanted, folder);
+  std::printf("S2's own polygons and index take %.1f MB\n", own.Bytes() / 1e6);
+  int drawn = 7;
+  const double redraw = Best(20, [&] { drawn = own.Redraw(drawn); });
+  std::printf("S2's own index: a redraw takes %.3f ms\n", redraw * 1e3);
   MeasureSet(scene, ReadAll(scene), wanted, seconds);
+}
+
+// The zones as GeoJSON.
+void WriteZones(const Scene& scene, std::FILE* file) {
+  std::fprintf(file, "{\"type\":\"FeatureCollection\",\"features\":[");
+  for (size_t at = 0; at < scene.zones.size(); at++) {
+    std::fprintf(file, "%s\n{\"type\":\"Feature\",\"id\":\"%zu\",\"properties\":{\"zone_id\":\"%zu\"},", at == 0 ? "" : ",", at, at);
+    std::fprintf(file, "\"geometry\":{\"type\":\"Polygon\",\"coordinates\":[");
+    for (size_t ring = 0; ring < scene.zones[at].size(); ring++) {
+      const char* before = ring == 0 ? "[" : ",[";
+      for (const auto& corner : scene.zones[at][ring]) {
+        std::fprintf(file, "%s[%.17g,%.17g]", before, corner.first, corner.second);
+        before = ",";
+      }
+      std::fprintf(file, "]");
+    }
+    std::fprintf(file, "]}}");
+  }
+  std::fprintf(file, "\n]}\n");
+}
+
+// Zones and points as other tools read them.
+void WriteScene(const Scene& scene, const std::string& folder) {
+  std::FILE* file = std::fopen((folder + "/zones.geojson").c_str(), "w");
+  Require(file != nullptr, "the zones can't be written");
+  WriteZones(scene, file);
+  Require(std::fclose(file) == 0, "the zones aren't written");
+  WriteItems(folder + "/latitudes", scene.latitudes);
+  WriteItems(folder + "/longitudes", scene.longitudes);
 }
 
 }  // namespace
 
 int main(int words, char** word) {
   const size_t zones = words > 1 ? std::stoul(word[1]) : 2'000, points = words > 2 ? std::stoul(word[2]) : 1'000'000;
-  const std::string part = words > 3 ? word[3] : "all";
+  const std::string part = words > 3 ? word[3] : "all", folder = words > 4 ? word[4] : "";
   const Scene scene = MakeScene(zones, points);
+  if (!folder.empty()) WriteScene(scene, folder);
   if (part != "points") MeasureReading(scene);
-  if (part != "reading") MeasurePoints(scene);
+  if (part != "reading") MeasurePoints(scene, folder);
 }
