@@ -267,7 +267,8 @@ uint32_t s2ix_labels_at_each(s2ix_handle *handle, const uint64_t *leaves, size_t
 
 /* The pairs that share a leaf with some of the cells, which come in any order, repeated or not. Each pair comes once, by first shared leaf,
    then falling level, then rising label. O(k + r + t log n) for k pairs over r ranges and t cells, and O(t log t) to sort them unless they
-   rise. Only the cells want memory, and none if they are at most 128 and follow one another. S2IX_CLOSED, S2IX_NO_CELL, S2IX_NO_ROOM, S2IX_OUT_OF_MEMORY. */
+   rise. Only the cells want memory, and none if they are at most 128 and follow one another. S2IX_CLOSED, S2IX_NO_CELL, S2IX_NO_ROOM,
+   S2IX_OUT_OF_MEMORY. */
 uint32_t s2ix_meet(s2ix_handle *handle, const uint64_t *cells, size_t len, s2ix_row *rows, size_t room, size_t *number);
 
 /* A page of that list: its pairs from the place `from` on, counted from 0, as many as there is room for. It never returns S2IX_NO_ROOM.
@@ -358,7 +359,7 @@ uint32_t s2ix_ranges(s2ix_handle *handle, size_t from, s2ix_leaf_range *ranges, 
 /* Of the pairs over the range at a place, those whose cells begin at the leaf number `from` or later, the innermost cell first, the labels
    of one cell rising. If `from` is 0, these are all of them. If `from` is the *limit of an earlier range, these are the pairs that do not
    also lie over the earlier range. So a caller that goes up the ranges, each time with the *limit of the range before, gets each pair once.
-   It does not allocate. O(log n + k) for k pairs put. S2IX_CLOSED, S2IX_NO_RANGE, S2IX_NO_ROOM. */
+   It does not allocate. O(log n + k) for k pairs. S2IX_CLOSED, S2IX_NO_RANGE, S2IX_NO_ROOM. */
 uint32_t s2ix_contents(s2ix_handle *handle, size_t place, uint64_t from, s2ix_row *rows, size_t room, size_t *number);
 
 /* The place of a range that has a pair over it: s2ix_next_full looks for the first from the place `from` on, s2ix_previous_full for the

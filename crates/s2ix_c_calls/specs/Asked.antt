@@ -31,7 +31,7 @@ pub record AreFollowing (ids : List ℕ) : Type 0 where
   pub some : ids ≢ []
   pub at_most : length ids ≤ 128
 
--- a union is made of the cells with these numbers: there are some, and they don't follow one another, or are more than 128
+-- there are numbers, but not those of at most 128 cells that follow one another: so if each is a cell's, a union is made
 abbrev pub NeedUnion : List ℕ → Type 0
 NeedUnion ids = (ids ≢ []) × (AreFollowing ids → ⊥)
 

@@ -175,8 +175,8 @@ pub(crate) fn put_over<T: RangeTable>(
     ensures { IsFilled (map row_of (contents_at (raw_of leaf) (T.pairs table.now))) result number.new out.old out.new }
 {
     let over = table.contents_near(leaf, LeafHint::none());
-    let left = write_linked(over.held, over.outers, over.innermost, out, number);
-    let more = length_linked(over.held, over.outers, left);
+    let next = write_linked(over.held, over.outers, over.innermost, out, number);
+    let more = length_linked(over.held, over.outers, next);
     let mut behind = 0;
     let status = put_chain(table, over.rest, 0, &mut out[*number..], &mut behind);
     *number += more + behind;

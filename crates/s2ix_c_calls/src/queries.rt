@@ -31,8 +31,7 @@ pub fn at(store: &Store, leaf: u64, out: &mut [Row], number: &mut usize) -> u32
 }
 
 /// The pairs that share a leaf with a union of cells, given in any order and repeated or not: each once, by first shared leaf, then
-/// falling level, then rising label. Only a union is gathered, and none is made of at most
-/// 128 cells that follow one another.
+/// falling level, then rising label. Only a union is gathered, and none is made of at most 128 cells that follow one another.
 pub fn meet(alloc: Global, store: &Store, ids: &[u64], out: &mut [Row], number: &mut usize) -> u32
     ensures list { FillsOf (λ cells. rows_met cells store.now) ids.now result number.new out.old out.new }
     ensures memory { result ≡ out_of_memory → NeedUnion ids.now }

@@ -23,8 +23,8 @@ pub(crate) enum Target {
 
 impl Target {
     /// The target of some cells by their numbers, or why there is none: the first number that is no cell's, with its place, counted from 0, in
-    /// `number`; or want of memory, if a union is needed and each number is a cell's. O(n log n) for n numbers, or O(n) if the cells follow
-    /// one another.
+    /// `number`; or want of memory, if each number is a cell's, and they need a union or are none. O(n log n) for n numbers, or O(n) if the
+    /// cells follow one another.
     #[inline]
     pub(crate) fn of(alloc: Global, ids: &[u64], number: &mut usize) -> Result<Target, u32>
         ensures target { IfOk result (λ target. AreTarget ids.now (cells_in target)) }

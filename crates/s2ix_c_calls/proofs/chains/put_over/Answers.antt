@@ -29,16 +29,16 @@ short g c =
 
 -- the rows that are out, with those of the pairs that have no room, are those of the chain in lists
 rows : (g : Over) (c : After-put_chain-status g)
-    → take c.write_linked-left.new.count c.write_linked-left.new.out
-    ++ map row_of (c.contents_near-over.ensures.contents.listed c.write_linked-left.result)
+    → take c.write_linked-next.new.count c.write_linked-next.new.out
+    ++ map row_of (c.contents_near-over.ensures.contents.listed c.write_linked-next.result)
     ≡ map row_of (c.contents_near-over.ensures.contents.listed c.contents_near-over.result.innermost)
 rows g c =
-    c.write_linked-left.ensures.rows c.contents_near-over.ensures.contents.listed c.contents_near-over.ensures.contents.linked
+    c.write_linked-next.ensures.rows c.contents_near-over.ensures.contents.listed c.contents_near-over.ensures.contents.linked
 
 counted : (g : Over) (c : After-put_chain-status g)
-    → c.length_linked-more.result ≡ length (c.contents_near-over.ensures.contents.listed c.write_linked-left.result)
+    → c.length_linked-more.result ≡ length (c.contents_near-over.ensures.contents.listed c.write_linked-next.result)
 counted g c =
-    let w = c.write_linked-left in
+    let w = c.write_linked-next in
     let are = c.contents_near-over.ensures.contents in
     let fewer =
     left_short row_of (take w.new.count w.new.out) (are.listed w.result) (are.listed c.contents_near-over.result.innermost) (rows g c) in
@@ -48,10 +48,10 @@ counted g c =
 behind : (g : Over) (c : After-put_chain-status g)
     → IsFilled (map row_of (from_place (g.T.RangeTable.chain c.args.table.now) c.contents_near-over.result.rest)) c.put_chain-status.result
     c.put_chain-status.new.number
-    (take (length c.write_linked-left.new.out - c.write_linked-left.new.count) (drop c.write_linked-left.new.count c.write_linked-left.new.out))
+    (take (length c.write_linked-next.new.out - c.write_linked-next.new.count) (drop c.write_linked-next.new.count c.write_linked-next.new.out))
     c.put_chain-status.new.out
 behind g c =
-    let w = c.write_linked-left in
+    let w = c.write_linked-next in
     subst
     (λ (l : Collection). IsFilled (map row_of l) c.put_chain-status.result c.put_chain-status.new.number
     (take (length w.new.out - w.new.count) (drop w.new.count w.new.out)) c.put_chain-status.new.out)
@@ -71,7 +71,7 @@ overflow_add-number g c =
 pub overflow_add-number-2 : goal.overflow_add-number-2
 overflow_add-number-2 g c =
     let s = (goal.at.overflow_add-number-2 g c).After-put_chain-status in
-    let w = c.write_linked-left in
+    let w = c.write_linked-next in
     let are = c.contents_near-over.ensures.contents in
     omega (
       arith,
@@ -88,22 +88,22 @@ overflow_add-number-2 g c =
 
 -- no room is left behind that of the chain behind
 no_more : (g : Over) (c : After-put_chain-status g)
-    → drop (length c.write_linked-left.new.out - c.write_linked-left.new.count) (drop c.write_linked-left.new.count c.write_linked-left.new.out)
+    → drop (length c.write_linked-next.new.out - c.write_linked-next.new.count) (drop c.write_linked-next.new.count c.write_linked-next.new.out)
     ≡ []
 no_more g c =
-    let w = c.write_linked-left in
+    let w = c.write_linked-next in
     let count = w.new.count in
     let out = w.new.out in
     empty (drop (length out - count) (drop count out))
     (omega (arith, length-drop (length out - count) (drop count out), length-drop count out))
 
 new_is : (g : Over) (c : After-put_chain-status g)
-    → take c.write_linked-left.new.count c.write_linked-left.new.out
+    → take c.write_linked-next.new.count c.write_linked-next.new.out
     ++ (c.put_chain-status.new.out
-    ++ drop (length c.write_linked-left.new.out - c.write_linked-left.new.count) (drop c.write_linked-left.new.count c.write_linked-left.new.out))
-    ≡ take c.write_linked-left.new.count c.write_linked-left.new.out ++ c.put_chain-status.new.out
+    ++ drop (length c.write_linked-next.new.out - c.write_linked-next.new.count) (drop c.write_linked-next.new.count c.write_linked-next.new.out))
+    ≡ take c.write_linked-next.new.count c.write_linked-next.new.out ++ c.put_chain-status.new.out
 new_is g c =
-    let w = c.write_linked-left in
+    let w = c.write_linked-next in
     let front = take w.new.count w.new.out in
     let tail = c.put_chain-status.new.out in
     ap (λ l. front ++ (tail ++ l)) (no_more g c) ∙ ap (λ l. front ++ l) (append-nil tail)
@@ -113,7 +113,7 @@ returns-then-more-gt0 g c =
     let s = (goal.at.returns-then-more-gt0 g c).After-put_chain-status in
     let over = c.contents_near-over.ensures in
     let are = over.contents in
-    let w = c.write_linked-left in
+    let w = c.write_linked-next in
     fills_before row_of (are.listed c.contents_near-over.result.innermost) (are.listed w.result) _ _ w.new.count c.length_linked-more.result
     c.args.out.now w.new.out _ _ c.put_chain-status.new.out c.put_chain-status.result c.put_chain-status.new.number
     (over_leaf c.args.leaf are c.requires over.from over.limit) (rows g s) w.ensures.after w.auto.out w.ensures.room
@@ -125,7 +125,7 @@ returns-else-more-gt0 g c =
     let s = (goal.at.returns-else-more-gt0 g c).After-put_chain-status in
     let over = c.contents_near-over.ensures in
     let are = over.contents in
-    let w = c.write_linked-left in
+    let w = c.write_linked-next in
     fills_behind row_of (are.listed c.contents_near-over.result.innermost) (are.listed w.result) _ _ w.new.count c.length_linked-more.result
     c.args.out.now w.new.out _ _ c.put_chain-status.new.out c.put_chain-status.result c.put_chain-status.new.number
     (over_leaf c.args.leaf are c.requires over.from over.limit) (rows g s) w.ensures.after w.auto.out w.ensures.room
