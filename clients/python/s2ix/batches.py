@@ -2,8 +2,6 @@
 from __future__ import annotations
 
 import ctypes
-import functools
-import importlib
 import operator
 from array import array
 from ctypes import addressof
@@ -12,7 +10,9 @@ from typing import TYPE_CHECKING, Any, Callable, Iterable, NamedTuple, Optional,
 
 from s2ix import library
 from s2ix.beside import side_by_side
-from s2ix.given import MOST_U64, NO_WORD, Bounds, Cells, Targets, cells_copied, expect_plain, wrong_cell
+from s2ix.given import MOST_U64, Bounds, Cells, Targets, cells_copied, expect_plain, wrong_cell
+from s2ix.memory import Room, address_of
+from s2ix.memory import installed_numpy as _numpy
 from s2ix.refusals import REFUSALS, NoCell, NoRoom, NoSpan, S2ixError, named, placed
 from s2ix.rows import HALF, PACKED, WORD
 from s2ix.tokens import no_cell
@@ -22,14 +22,10 @@ if TYPE_CHECKING:
 
 _Made = TypeVar("_Made")
 
-# The first call has room for so many answers a leaf or target,
-_EACH = 4
-# and each call for at least and at most so many.
-_LEAST, _MOST = 256, 1 << 22
+# The first call has room for so many answers a leaf or target, but at most for so many; and each call for at least so many.
+_EACH, _MOST, _LEAST = 4, 1 << 22, 256
 # A call is given at most so many leaves or targets, so that an interrupt waits some tenths of a second.
 _STEP = 1 << 20
-# Of memory of more bytes than this, what NumPy didn't write to is not taken from the system.
-_FREE = 1 << 25
 
 
 class _Asked(Protocol):
@@ -111,19 +107,9 @@ def _words_of(view: memoryview, kind: str) -> memoryview:
         raise TypeError(f"{kind} lie in one row, not in an array of {view.ndim} dimensions")
     if view.c_contiguous:
         words = view.cast("B").cast("Q")
-        if (not view.readonly or _numpy() is not None) and _address_of(words) % WORD == 0:
+        if (not view.readonly or _numpy() is not None) and address_of(words) % WORD == 0:
             return words
     return memoryview(array("Q", view.tobytes()))
-
-
-def _address_of(memory: memoryview) -> int:
-    """Where memory lies. Of what can't be written, only NumPy tells it."""
-    if not len(memory):
-        return addressof(NO_WORD)
-    if memory.readonly:
-        address: int = _numpy().asarray(memory).ctypes.data
-        return address
-    return addressof(ctypes.c_char.from_buffer(memory))
 
 
 class _Leaves:
@@ -132,7 +118,7 @@ class _Leaves:
     share = 4096
 
     def __init__(self, words: memoryview) -> None:
-        self._words, self._start = words, _address_of(words)
+        self._words, self._start = words, address_of(words)
 
     def __len__(self) -> int:
         return len(self._words)
@@ -152,8 +138,8 @@ class _Targets:
     share = 64
 
     def __init__(self, cells: memoryview, bounds: memoryview) -> None:
-        self._cells, self._start = cells, _address_of(cells)
-        self._bounds, self._first = bounds, _address_of(bounds)
+        self._cells, self._start = cells, address_of(cells)
+        self._bounds, self._first = bounds, address_of(bounds)
 
     def __len__(self) -> int:
         return max(len(self._bounds) - 1, 0)
@@ -205,15 +191,6 @@ def _bounds_in(bounds: Any) -> memoryview:
 # What is found.
 
 
-@functools.lru_cache(maxsize=None)
-def _numpy() -> Any:
-    """NumPy, or None if it isn't installed."""
-    try:
-        return importlib.import_module("numpy")
-    except ImportError:
-        return None
-
-
 class _Batch:
     """What is asked by a call of the library, and what is found: how many answers there are after each leaf or target, and all answers."""
 
@@ -231,10 +208,10 @@ class _Batch:
         step = max(-(-self._many // threads), self._asked.share)
         spans = [(start, min(start + step, self._many)) for start in range(0, self._many, step)] or [(0, 0)]
         still = index.copy()
-        copies = [still, *(still.copy() for _ in spans[1:])]
         if len(spans) == 1:
-            return self._joined(spans, [self._part(still, *spans[0])], map)
-        return self._joined(spans, self._beside(self._part, copies, *zip(*spans)), self._beside)
+            return self._ends, self._whole([self._part(still, *spans[0])])
+        copies = [still, *(still.copy() for _ in spans[1:])]
+        return self._joined(spans, self._beside(self._part, copies, *zip(*spans)))
 
     def _beside(self, work: Callable[..., _Made], *given: Iterable[object]) -> list[_Made]:
         """As `map`, but with a thread for each. If one is refused, those that are left end."""
@@ -243,65 +220,52 @@ class _Batch:
     def _leave(self) -> None:
         self._is_over = True
 
-    def _part(self, index: Index, start: int, stop: int) -> list[memoryview]:
-        """What is found for those from one place up to another, in parts. Their ends are counted from `start` on.
+    def _part(self, index: Index, start: int, stop: int) -> tuple[Room, int]:
+        """What is found for those from one place up to another, and how many answers that is. Their ends are counted from `start` on.
 
         The index is a copy that no other thread uses, and this one closes it: an interrupt may end the other threads' work first."""
-        parts, before, place, room = [], 0, start, _room_of(_EACH * min(stop - start, _STEP))
+        room, size, before, place, wanted = Room(), self._kind.size, 0, start, min(_EACH * (stop - start), _MOST)
         with index:
             while place < stop and not self._is_over:
                 ends = memoryview(self._ends)[place : min(stop, place + _STEP)]
-                items = _memory(room * self._kind.size)
+                items = room.behind(before * size, max(wanted, _LEAST) * size)
                 many = self._ask(index, place, ends, items)
                 used = ends[many - 1] if many else 0
-                parts.append(items[: used * self._kind.size])
                 _add(ends[:many], before)
                 before, place = before + used, place + many
-                # (an eighth more than as many each as there are so far)
-                wanted = min(stop - place, _STEP) * before * 9 // (8 * max(place - start, 1))
-                if not many:
-                    # (the next one alone has more than there was room for)
-                    wanted = 4 * room
-                elif many < len(ends):
-                    wanted = max(wanted, 2 * room)
-                room = _room_of(wanted)
-        return parts
+                # (an eighth more than as many each as there are so far; or the next one alone has more than there was room for)
+                wanted = (stop - place) * before * 9 // (8 * (place - start)) if many else 4 * len(items) // size
+        return room, before
 
-    def _joined(self, spans: list[tuple[int, int]], found: list[list[memoryview]], run: Callable[..., Iterable[None]]) -> tuple[Any, Any]:
+    def _joined(self, spans: list[tuple[int, int]], found: list[tuple[Room, int]]) -> tuple[Any, Any]:
         """The answers of some spans as those of the whole. What is copied or counted anew is so by as many threads."""
-        starts = [0, *accumulate(sum(map(len, parts)) for parts in found)]
-        numpy, parts = _numpy(), [part for parts in found for part in parts]
-        whole = None if numpy is None or _is_whole(parts) else numpy.empty(starts[-1], "u1")
+        starts, size = [0, *accumulate(number for _, number in found)], self._kind.size
+        whole = None if _numpy() is None else Room(starts[-1] * size)
 
-        def put(span: tuple[int, int], start: int, parts: list[memoryview]) -> bool:
-            _add(memoryview(self._ends)[slice(*span)], start // self._kind.size)
+        def put(span: tuple[int, int], start: int, part: tuple[Room, int]) -> None:
+            _add(memoryview(self._ends)[slice(*span)], start)
             if whole is not None:
-                for part in parts:
-                    whole[start : start + len(part)] = numpy.asarray(part)
-                    start += len(part)
-            return True
+                whole.put(start * size, part[0], part[1] * size)
 
-        for _ in run(put, spans, starts, found):
-            pass
-        if numpy is None:
-            return self._ends, self._kind.whole(parts)
-        if whole is None:
-            whole = numpy.asarray(parts[0])
-        return self._ends, whole.view(self._kind.dtype)
+        self._beside(put, spans, starts, found)
+        return self._ends, self._whole(found if whole is None else [(whole, starts[-1])])
+
+    def _whole(self, found: list[tuple[Room, int]]) -> Any:
+        """All answers, as they are returned. With NumPy they lie in one room."""
+        if _numpy() is None:
+            return self._kind.whole([room.view(number * self._kind.size) for room, number in found])
+        [(room, number)] = found
+        return room.cut(number * self._kind.size).view(self._kind.dtype)
 
     def _ask(self, index: Index, place: int, ends: memoryview, items: memoryview) -> int:
         """Makes one call, from a place on, that puts its answers into memory; returns for how many leaves or targets."""
         answered, call = ctypes.c_size_t(), getattr(library.load_unlocked(), self._call)
         given = self._asked.given(place, place + len(ends))
-        rooms = _address_of(ends), len(ends), _address_of(items), len(items) // self._kind.size
+        rooms = address_of(ends), len(ends), address_of(items), len(items) // self._kind.size
         status = call(index._at_handle, *given, *rooms, addressof(answered))
         if status not in (0, NoRoom.status):
             raise self._asked.refusal(status, place + answered.value)
         return answered.value
-
-
-def _room_of(wanted: int) -> int:
-    return min(max(wanted, _LEAST), _MOST)
 
 
 def _add(ends: memoryview, before: int) -> None:
@@ -315,24 +279,9 @@ def _add(ends: memoryview, before: int) -> None:
         ends[:] = array("q", [end + before for end in ends])
 
 
-def _memory(size: int) -> memoryview:
-    """So many bytes, of any value. From NumPy they take no time until they are written to, and then less than zeros do: it asks the system
-    for large pages."""
-    numpy = _numpy()
-    return memoryview((ctypes.c_uint64 * -(-size // WORD))()).cast("B") if numpy is None else memoryview(numpy.empty(size, "u1"))
-
-
-def _is_whole(parts: list[memoryview]) -> bool:
-    """Whether a part can stay as it lies: it is the only one, and most of its memory isn't free."""
-    if len(parts) != 1:
-        return False
-    taken = memoryview(parts[0].obj).nbytes
-    return 2 * len(parts[0]) >= taken or _numpy() is not None and taken > _FREE
-
-
 def _rows_in(parts: list[memoryview]) -> memoryview:
-    """A memoryview whose items are rows."""
-    packed: Any = parts[0] if _is_whole(parts) else bytearray().join(parts)
+    """A memoryview whose items are rows. One part stays as it lies, if most of its memory isn't free."""
+    packed: Any = parts[0] if len(parts) == 1 and 2 * len(parts[0]) >= memoryview(parts[0].obj).nbytes else bytearray().join(parts)
     return memoryview((library.PackedRow * (len(packed) // PACKED)).from_buffer(packed))
 
 

@@ -361,19 +361,27 @@ class Index(Edits):
             raise no_cell(leaf, "leaf") from None
 
     def at_each(self, leaves: Cells, threads: int = 1) -> tuple[Any, Any]:
-        """What `at` returns for each of many leaves, as two arrays: the number of rows over the leaves up to this one, and the rows of all,
-        one leaf after the other, packed as those of `meet_view`. So the rows of the second leaf are `rows[ends[0]:ends[1]]`.
+        """What `at` returns for each of many leaves, in two new arrays. The second has the rows over the first leaf, then those over the
+        next one, and so on; the first tells for each leaf where its rows end. So leaf k has `rows[ends[k - 1]:ends[k]]`, and the first one
+        `rows[:ends[0]]`.
+
+        If NumPy is installed, `ends` is an array of int64 and `rows` one with the fields of `meet_view`, whose dtype is
+        `[("cell", "<u8"), ("label", "<u4"), ("count", "<u4")]`. `numpy.diff(ends, prepend=0)` tells how many rows each leaf has, and
+        `numpy.repeat(numpy.arange(len(ends)), numpy.diff(ends, prepend=0))` to which leaf each row belongs. Without NumPy they are an
+        `array` of numbers and a memoryview like that of `meet_view`.
 
         Leaves may be any iterable of numbers and tokens. The call reads a 1-D array, memoryview or pandas column of 64-bit integers in
         place, signed or not, in the machine's order of bytes; it copies a nullable column, a slice with steps, and, if NumPy isn't
-        installed, memory that can't be written. It returns NumPy arrays if NumPy is installed, else an `array` of numbers and a memoryview
-        of rows.
+        installed, memory that can't be written. It is quickest if the leaves rise.
 
-        At most `threads` threads share the leaves; few leaves have fewer. The call releases the GIL while the library works, so other
-        threads of the program run too, and may edit or close the index: all answers are of what the index held when the call began.
-        O(p + m log n + k) for m leaves and k rows, with p as in `copy` and for each thread; it is quickest if the leaves rise. If one is
-        refused, none is answered. Raises Closed, OutOfMemory, or NoCell with the first number that is no leaf's and its place, counted from
-        0; TypeError for arrays of other numbers or with a mask, and for missing values; and ValueError for threads below 1.
+        At most `threads` threads share the leaves, and at most one for each 4,096 of them or part of these. The call releases the GIL while
+        the library works, so other threads of the program run too, and may edit or close the index: all answers are of what the index held
+        when the call began. The rows that one thread finds stay where the library put them; those of several are copied once more, and take
+        twice their memory until the call returns. THREADS
+
+        O(p + m log n + k) for m leaves and k rows, with p as in `copy` and for each thread. If a leaf is refused, none is answered. Raises
+        Closed, OutOfMemory, or NoCell with the first number that is no leaf's and its place, counted from 0; TypeError for arrays of other
+        numbers or with a mask, and for missing values; ValueError for threads below 1; and MemoryError.
 
         >>> index = Index()
         >>> index.add("1", 3), index.add("04", 9)
@@ -385,8 +393,8 @@ class Index(Edits):
         return rows_of_each(self, leaves, threads)
 
     def labels_at_each(self, leaves: Cells, threads: int = 1) -> tuple[Any, Any]:
-        """As `at_each`, but with labels in place of rows: how many there are over the leaves up to this one, and the labels of all leaves.
-        A label is repeated if a leaf lies in several cells of it.
+        """As `at_each`, but with labels in place of rows: an array of uint32, or without NumPy an `array`. So leaf k has
+        `labels[ends[k - 1]:ends[k]]`, the innermost cell's first. A label is repeated if a leaf lies in several cells of it.
 
         >>> index = Index()
         >>> index.add("1", 3), index.add("04", 9)
@@ -443,13 +451,15 @@ class Index(Edits):
         return found
 
     def meet_each(self, targets: Targets, threads: int = 1, *, bounds: Optional[Bounds] = None) -> tuple[Any, Any]:
-        """What `meet` returns for each of many targets, as two arrays like those of `at_each`: the number of rows of the targets up to this
-        one, and the rows of all, one target after the other.
+        """What `meet` returns for each of many targets, in two new arrays like those of `at_each`: where the rows of each target end, and
+        the rows of all, one target after the other.
 
-        A target is what `meet` takes, a cell or many, or an array of signed ones. In an array of 64-bit integers each cell is a target.
-        With `bounds`, the cells of all targets lie in one row, and target k has those from `bounds[k]` on and before `bounds[k + 1]`: there
-        is one bound more than there are targets, and the first is mostly 0. Cells after the last bound belong to no target. Arrays are then
-        read as they lie, like leaves; targets without bounds are copied. Threads are as in `at_each`.
+        A target is what `meet` takes, a cell or many, or an array of signed ones. In an array of 64-bit integers each cell is a target, and
+        in NumPy's of two dimensions each row. With `bounds`, the cells of all targets lie in one row, and target k has those from
+        `bounds[k]` on and before `bounds[k + 1]`: there is one bound more than there are targets, and the first is mostly 0, as in
+        `numpy.append(0, ends)` of another answer. Cells after the last bound belong to no target. Arrays are then read as they lie, like
+        leaves; targets without bounds are copied, but for an array of which each cell is one. Threads are as in `at_each`, but at most one
+        for each 64 targets or part of these.
 
         It costs what `meet` does for each target, besides a copy for each thread. Raises as `at_each` does, but NoCell and NoSpan with the
         place of the first target that is refused: NoCell has the number that is no cell's, NoSpan the bound that is below the one before or
@@ -467,8 +477,8 @@ class Index(Edits):
         return rows_met_by_each(self, targets, threads, bounds)
 
     def labels_each(self, targets: Targets, threads: int = 1, *, bounds: Optional[Bounds] = None) -> tuple[Any, Any]:
-        """As `meet_each`, but with what `labels` returns for each target: the number of labels of the targets up to this one, and the
-        labels of all, for each target rising and each once.
+        """As `meet_each`, but with what `labels` returns for each target: where its labels end, and the labels of all, for each target
+        rising and each once. They are an array of uint32, or without NumPy an `array`.
 
         >>> index = Index()
         >>> index.add_union(["04", "0c"], 9), index.add("1", 3)
