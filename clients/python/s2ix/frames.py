@@ -30,18 +30,18 @@ def join(
     of its cells: `Index.add_union` lays a zone without a cell within another.
 
     It is a merge of the column `leaf` with a frame whose index has the leaves, `points.merge(answers, left_on=leaf, right_index=True)`: all
-    columns are kept, and the index is, each value as often as its point. `how="inner"` drops the points without a label, `how="left"` keeps
-    them, with a label that is missing. So the column of labels is of the dtype "uint32", or, if `how` is "left", of the nullable "UInt32".
-    With `names` it has the names of labels; a label without one gets a missing value, as by `Series.map`. Zones of `s2ix_places` in place
-    of an index need no leaves, and give ids in a column `zone`: this is their `join`.
+    columns are kept, and so is the index, with each value as often as its point comes. `how="inner"` drops the points without a label,
+    `how="left"` keeps them, with a label that is missing. So the column of labels is of the dtype "uint32", or, if `how` is "left", of the
+    nullable "UInt32". With `names` it has the names of labels; a label without one gets a missing value, as by `Series.map`. Zones of
+    `s2ix_places` in place of an index need no leaves, and give ids in a column `zone`: this is their `join`.
 
     Leaves are 64-bit integers with or without sign, nullable ones of pandas, categories of these, or Python's ints and tokens in a column
     of objects. A missing leaf is in no zone; if all are missing, the column may have any dtype. Floats are a TypeError, since they don't
     hold 64 bits: pandas makes floats of integers if some are missing, unless it reads them as "UInt64". So are all other values, as True.
 
     Raises KeyError if there is no column `leaf`, ValueError if it is there twice or there is a column `label`, TypeError if `leaf` names
-    several columns, under a MultiIndex, NoCell with the row of the first number that is no leaf's, and what `Index.labels_at_each` does,
-    whose `threads` these are. ::
+    several columns, under a MultiIndex, NoCell with the row of the first number that is no leaf's, and what `Index.labels_at_each` does.
+    At most `threads` threads look for the labels, as there; then one makes the frame. ::
 
         points = pandas.DataFrame({"parcel": [1, 2], "leaf": [0x0400000000000001, 0x0C00000000000001]})
         frames.join(points, zones, names={3: "Alfama", 9: "Baixa"})
