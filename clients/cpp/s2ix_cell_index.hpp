@@ -3,6 +3,7 @@
 #define S2IX_CELL_INDEX_HPP
 
 #include "s2ix_index.hpp"
+#include "s2ix_label_set.hpp"
 
 #include <algorithm>
 #include <atomic>
@@ -11,7 +12,6 @@
 #include <cstdint>
 #include <cstdio>
 #include <functional>
-#include <initializer_list>
 #include <iterator>
 #include <limits>
 #include <memory>
@@ -101,7 +101,7 @@ struct HasReserve<Set, std::void_t<decltype(std::declval<Set&>().reserve(std::si
 //   Seek() to what is no leaf: undefined          throws Error, and the iterator stays
 //   Advance(n) takes n below 0                    returns false, and the iterator stays
 //   a ContentsIterator states no order            gives the innermost cell first, the labels of one cell rising
-//   GetIntersectingLabels gives absl's set        a LabelSet, of which any set can be made, or any set that is passed
+//   GetIntersectingLabels gives absl's set        a LabelSet, which rises and has its calls, or any set that is passed
 //
 // A thread that visits or asks for labels keeps up to 80 kB of room for its next query, until it ends.
 //
@@ -217,83 +217,14 @@ class BasicS2CellIndex {
     }
   }
 
-  // A set of labels, in rising order. It is one list, since a hashed set takes longer to make than its labels to find. Any set can be made of
-  // it, as by `std::unordered_set<Label> labels = index.GetIntersectingLabels(target)`.
-  class LabelSet {
-   public:
-    using value_type = Label;
-    using size_type = std::size_t;
-    using const_iterator = typename std::vector<Label>::const_iterator;
-    using iterator = const_iterator;
-
-    LabelSet() = default;
-    LabelSet(std::initializer_list<Label> labels) {
-      for (Label label : labels) insert(label);
-    }
-
-    [[nodiscard]] const_iterator begin() const noexcept { return labels_.begin(); }
-    [[nodiscard]] const_iterator end() const noexcept { return labels_.end(); }
-    [[nodiscard]] size_type size() const noexcept { return labels_.size(); }
-    [[nodiscard]] bool empty() const noexcept { return labels_.empty(); }
-
-    // Each takes O(log n).
-    [[nodiscard]] const_iterator find(Label label) const {
-      const const_iterator at = std::lower_bound(begin(), end(), label);
-      return at != end() && *at == label ? at : end();
-    }
-    [[nodiscard]] bool contains(Label label) const { return find(label) != end(); }
-    [[nodiscard]] size_type count(Label label) const { return contains(label) ? 1 : 0; }
-
-    // Each takes O(n).
-    std::pair<iterator, bool> insert(Label label) {
-      const const_iterator at = std::lower_bound(begin(), end(), label);
-      if (at != end() && *at == label) return {at, false};
-      return {labels_.insert(at, label), true};
-    }
-    size_type erase(Label label) {
-      const const_iterator at = find(label);
-      if (at == end()) return 0;
-      labels_.erase(at);
-      return 1;
-    }
-    void clear() noexcept { labels_.clear(); }
-
-    template <class Set,
-              class = std::enable_if_t<std::is_same_v<typename Set::value_type, Label> && std::is_constructible_v<Set, const_iterator, const_iterator>>>
-    operator Set() const {
-      return Set(begin(), end());
-    }
-
-    friend bool operator==(const LabelSet& one, const LabelSet& other) { return one.labels_ == other.labels_; }
-    friend bool operator!=(const LabelSet& one, const LabelSet& other) { return !(one == other); }
-    template <class Set, class = decltype(std::declval<const Set&>().count(Label{}))>
-    friend bool operator==(const LabelSet& labels, const Set& set) {
-      return labels.size() == set.size() && std::all_of(labels.begin(), labels.end(), [&](Label label) { return set.count(label) > 0; });
-    }
-    template <class Set, class = decltype(std::declval<const Set&>().count(Label{}))>
-    friend bool operator==(const Set& set, const LabelSet& labels) {
-      return labels == set;
-    }
-    template <class Set, class = decltype(std::declval<const Set&>().count(Label{}))>
-    friend bool operator!=(const LabelSet& labels, const Set& set) {
-      return !(labels == set);
-    }
-    template <class Set, class = decltype(std::declval<const Set&>().count(Label{}))>
-    friend bool operator!=(const Set& set, const LabelSet& labels) {
-      return !(labels == set);
-    }
-
-   private:
-    friend class BasicS2CellIndex;
-
-    std::vector<Label> labels_;
-  };
+  // A set of labels, in rising order, of which any set can be made.
+  using LabelSet = s2ix::LabelSet;
 
   // The labels of those pairs.
   template <class Union>
   LabelSet GetIntersectingLabels(const Union& target) const {
     LabelSet labels;
-    with_labels(target, [&](const std::uint32_t* first, std::size_t number) { labels.labels_.assign(first, first + number); });
+    with_labels(target, [&](const std::uint32_t* first, std::size_t number) { labels.assign_rising(first, number); });
     return labels;
   }
 
