@@ -4,6 +4,7 @@
 
 #include "s2ix_index.hpp"
 #include "s2ix_label_set.hpp"
+#include "s2ix_room.hpp"
 
 #include <algorithm>
 #include <atomic>
@@ -35,47 +36,36 @@ inline std::string printed(Cell cell) {
   return text;
 }
 
-// An object that lies apart from its owner, and is copied with it. There is none before it is made. (No call that isn't inlined gets a pointer to
-// the owner, so the compiler can keep an iterator that owns a page in registers.)
-template <class Object>
-class Apart {
- public:
-  Apart() noexcept = default;
-  explicit Apart(Object* object) noexcept : object_(object) {}
-  Apart(Apart&& other) noexcept : object_(std::exchange(other.object_, nullptr)) {}
-  Apart(const Apart& other) : object_(other.object_ == nullptr ? nullptr : new Object(*other.object_)) {}
-  // (not one that takes its object by value: what copies its owner would be noexcept, though the copy may throw)
-  Apart& operator=(const Apart& other) { return *this = Apart(other); }
-  Apart& operator=(Apart&& other) noexcept {
-    Apart taken(std::move(other));
-    std::swap(object_, taken.object_);
-    return *this;
-  }
-  ~Apart() {
-    if (object_ != nullptr) free(object_);
-  }
-
-  // The object, which is made if there is none.
-  [[nodiscard]] Object* made() {
-    if (object_ == nullptr) object_ = new Object();
-    return object_;
-  }
-
-  // The object, if it was made.
-  [[nodiscard]] const Object& operator*() const noexcept { return *object_; }
-  [[nodiscard]] const Object* operator->() const noexcept { return object_; }
-
- private:
-  [[gnu::noinline]] static void free(Object* object) noexcept { delete object; }
-
-  Object* object_ = nullptr;
-};
-
 // Whether a set can be told how many items it will hold.
 template <class Set, class = void>
 struct HasReserve : std::false_type {};
 template <class Set>
 struct HasReserve<Set, std::void_t<decltype(std::declval<Set&>().reserve(std::size_t{}))>> : std::true_type {};
+
+// What is answered, besides the statuses of s2ix.h, if the ranges have moved since an iterator was positioned.
+inline constexpr std::uint32_t ranges_moved = 0xffffffff;
+
+}  // namespace detail
+
+// An iterator of an S2CellIndex can't go on, because an edit has moved the ranges since it was positioned: position it anew. It has the status
+// S2IX_NO_RANGE.
+class StaleIterator : public Error {
+ public:
+  StaleIterator() : Error(S2IX_NO_RANGE, "s2ix: an edit has moved the ranges since the iterator was positioned: position it anew") {}
+};
+
+namespace detail {
+
+// Whether the ranges are as they were in an earlier state, as a status.
+inline std::uint32_t unmoved(const ::s2ix_handle* handle, std::uint64_t state, std::uint64_t earlier) {
+  if (!handle->is_open) return S2IX_CLOSED;
+  return state == earlier ? std::uint32_t{S2IX_DONE} : ranges_moved;
+}
+
+// Throws if the ranges have moved.
+inline void check_stale(std::uint32_t status) {
+  if (status == ranges_moved) throw StaleIterator();
+}
 
 }  // namespace detail
 
@@ -84,9 +74,9 @@ struct HasReserve<Set, std::void_t<decltype(std::declval<Set&>().reserve(std::si
 //   S2                                            here
 //   Build() comes once, between adds and queries  any number of times: it makes one change of the adds since the last Build()
 //   no query before Build()                       queries, index() and a CellIterator build first; other iterators don't
-//   several threads may query at once             they may too, each with iterators of its own, also while another edits through index(),
-//                                                 which moves the ranges. Build() first, if they use RangeIterators. No other call
-//                                                 may run beside an Add(), a Clear() or a move
+//   several threads may query at once             they may too, each with iterators of its own, also while another edits through index().
+//                                                 Build() first, if they use RangeIterators. No other call may run beside an Add(), a
+//                                                 Clear() or a move
 //   Clear()                                       drops the changes too: nothing is left to undo
 //   any number of pairs                           limits: at most 1,000,000 distinct pairs; Build() throws above them
 //   an invalid cell, a label below 0: undefined   Add and the queries throw Error
@@ -94,8 +84,12 @@ struct HasReserve<Set, std::void_t<decltype(std::declval<Set&>().reserve(std::si
 //   a pair added n times is kept n times          is kept once with a count; visits and iterators give it n times, as S2 does
 //   a visit comes in no stated order              by first shared leaf, then falling level, then rising label
 //   a CellIterator reads the index                gives the pairs as they were when it was made, by rising cell, then label
-//   no Add while an iterator or a visit runs      Build() and edits move the ranges: position a RangeIterator anew. A ContentsIterator
-//                                                 keeps the pairs that StartUnion read. A visitor's adds and edits throw std::logic_error
+//   no Add while a visit runs                     a visitor's adds and edits throw std::logic_error
+//   no iterator is used after Build() or Clear()  these and each call that changes what index() holds or its changes move the ranges. Then a
+//                                                 RangeIterator keeps what it has read, and throws StaleIterator if it has to read more:
+//                                                 position it anew. A ContentsIterator keeps the pairs that StartUnion read, and may give
+//                                                 them again from then on. Of edits by index().handle() they learn nothing
+//   a moved iterator leaves a copy behind         leaves one that is done
 //   a RangeIterator is unpositioned at first      is done at first, and its Prev() returns false
 //   Next() and limit_id() when done: undefined    Next() stays, and limit_id() returns the end of all leaves
 //   Seek() to what is no leaf: undefined          throws Error, and the iterator stays
@@ -198,23 +192,13 @@ class BasicS2CellIndex {
   // std::logic_error and change nothing, and so does each edit, undo, redo, forget, clear and line through index(), on any thread.
   template <class Union>
   bool VisitIntersectingCells(const Union& target, const CellVisitor& visitor) const {
-    const detail::Given cells(target);
-    const Index& beneath = built();
-    const detail::Handle::Visit visit(beneath.handle_);
-    // (in pages that grow, so that a visit which ends early reads little of a long list)
-    detail::Page<Row> page;
-    std::size_t from = 0;
-    for (std::size_t most = page.least;; most *= 4) {
-      const std::size_t number = Index::put_met(visit, cells, from, page.data(), most);
-      for (const Row& row : Items<Row>(page.data(), page.data() + number)) {
-        for (std::uint32_t copy = 0; copy < row.count; copy++) {
-          if (!visitor(Id(row.cell), static_cast<Label>(row.label))) return false;
-        }
-      }
-      if (number < most) return true;
-      from += most;
-      page.grow(4 * most);
-    }
+    return visit_met(target, visitor);
+  }
+
+  // The same, quicker, for any other function: a copy of it is called.
+  template <class Union, class Visitor, class = std::enable_if_t<std::is_invocable_r_v<bool, Visitor&, Id, Label>>>
+  bool VisitIntersectingCells(const Union& target, Visitor visitor) const {
+    return visit_met(target, visitor);
   }
 
   // A set of labels, in rising order, of which any set can be made.
@@ -242,21 +226,20 @@ class BasicS2CellIndex {
   // which shares memory with it.
   class CellIterator {
    public:
-    explicit CellIterator(const BasicS2CellIndex* index) : page_(first_page(index->built())), size_(page_->size) {}
+    explicit CellIterator(const BasicS2CellIndex* index) : pages_(first_page(index->built())) {}
 
-    Id cell_id() const { return Id(row().cell); }
-    Label label() const { return static_cast<Label>(row().label); }
+    Id cell_id() const { return Id(pages_->cell); }
+    Label label() const { return static_cast<Label>(pages_->label); }
     LabelledCell labelled_cell() const { return LabelledCell(cell_id(), label()); }
 
-    // Whether all pairs have been given. If so, call no other method.
-    bool done() const { return row_ == size_; }
+    // Whether all pairs have been given, or it was moved from. If so, call no other method.
+    bool done() const { return pages_.is_at_end(); }
 
     void Next() {
-      if (++copy_ < row().count) return;
+      if (++copy_ < pages_->count) return;
       copy_ = 0;
-      if (++row_ < size_) return;
-      size_ = next_page(page_.made());
-      row_ = 0;
+      pages_.next();
+      if (pages_.is_at_end()) pages_.turn_to(next_page(pages_.made()));
     }
 
    private:
@@ -264,12 +247,12 @@ class BasicS2CellIndex {
 
     // A page of pairs, how many there are in it, and the place of its first one.
     struct Page {
-      std::vector<Row> rows;
+      std::vector<Row> items;
       std::size_t size = 0, from = 0;
       // What all pages are read from, if there are several.
       std::shared_ptr<detail::Handle> rest;
 
-      std::uint32_t read(::s2ix_handle* handle) { return s2ix_pairs(handle, from, rows.data(), rows.size(), &size); }
+      std::uint32_t read(::s2ix_handle* handle) { return s2ix_pairs(handle, from, items.data(), items.size(), &size); }
     };
 
     [[gnu::noinline]] static Page* first_page(const Index& beneath) {
@@ -278,7 +261,7 @@ class BasicS2CellIndex {
         std::size_t held = 0;
         std::uint32_t status = s2ix_len(handle, &held);
         if (status != S2IX_DONE || held == 0) return status;
-        page->rows.resize(std::min(held, most));
+        page->items.resize(std::min(held, most));
         status = page->read(handle);
         if (status != S2IX_DONE || held <= most) return status;
         // (the other pages are read from a copy, which no edit changes)
@@ -296,163 +279,228 @@ class BasicS2CellIndex {
       return page->size;
     }
 
-    const Row& row() const { return page_->rows[row_]; }
-
-    detail::Apart<Page> page_;
-    std::size_t size_ = 0, row_ = 0;
+    detail::Pages<Page> pages_;
     std::uint32_t copy_ = 0;
   };
 
   class ContentsIterator;
 
   // Goes along the ranges of leaves over which the same pairs lie. They follow one another, from the first leaf of face 0 to the last of
-  // face 5. Position it by Begin, Seek or Finish.
+  // face 5. Position it by Begin, Seek or Finish. If the ranges have moved since, a call that has to read them throws StaleIterator, and the
+  // iterator stays. One that was moved from is as a new one.
   class RangeIterator {
    public:
     explicit RangeIterator(const BasicS2CellIndex* index) : index_(index) {}
+    RangeIterator(const RangeIterator& other) = default;
+    RangeIterator(RangeIterator&& other) noexcept
+        : pages_(std::move(other.pages_)),
+          index_(other.index_),
+          at_(std::exchange(other.at_, At())),
+          goes_on_(std::exchange(other.goes_on_, false)) {}
+    RangeIterator& operator=(const RangeIterator& other) { return *this = RangeIterator(other); }
+    RangeIterator& operator=(RangeIterator&& other) noexcept {
+      pages_ = std::move(other.pages_);
+      index_ = other.index_;
+      at_ = std::exchange(other.at_, At());
+      goes_on_ = std::exchange(other.goes_on_, false);
+      return *this;
+    }
+    ~RangeIterator() = default;
 
     // The first leaf of the range; the end of all leaves, 0xc000000000000001, if the iterator is done.
-    Id start_id() const { return Id(here_.start); }
+    Id start_id() const { return Id(found_at().start); }
 
     // The leaf with which the next range begins; the end of all leaves after the last one.
-    Id limit_id() const { return Id(here_.limit); }
+    Id limit_id() const { return Id(found_at().limit); }
 
     // Whether the iterator stands after the last range.
-    bool done() const { return here_.start == end_of_leaves; }
+    bool done() const { return at_.start == detail::end_of_leaves; }
 
     // Whether no pair lies over the range; true if the iterator is done.
     bool is_empty() const {
-      if (!knows_empty_) {
-        here_.is_empty = is_empty_at(index_, place_);
-        knows_empty_ = true;
+      if (at_.known != Known::all) {
+        const At& at = found_at();
+        at_ = read_at(index_, at.place, at.state).at;
       }
-      return here_.is_empty;
+      return at_.is_empty;
     }
 
-    void Begin() { go(0); }
+    void Begin() { go([](::s2ix_handle*, std::uint64_t, std::size_t*) { return std::uint32_t{S2IX_DONE}; }); }
 
     // Goes after the last range.
-    void Finish() { go(index_->index_.range_count()); }
+    void Finish() { go([](::s2ix_handle*, std::uint64_t, std::size_t*) { return std::uint32_t{S2IX_NO_RANGE}; }); }
 
     void Next() {
-      if (at_ == size_) {
+      if (pages_.is_at_end()) {
         if (done()) return;
-        if (goes_on_) {
-          size_ = next_page(index_, place_ + 1, page_.made(), size_);
-          at_ = 0;
-        }
-        if (size_ == 0) {
-          go(place_ + 1);
-          goes_on_ = true;
-          return;
-        }
+        if (goes_on_) pages_.turn_to(next_page(index_, at_.place + 1, at_.state, pages_.made()));
+        if (pages_.is_at_end()) return go_on();
       }
-      here_ = (*page_)[at_++];
-      knows_empty_ = true;
-      place_++;
+      at_.place++;
+      at_.start = pages_->start;
+      at_.limit = pages_->limit;
+      at_.is_empty = pages_->is_empty;
+      pages_.next();
     }
 
     // Goes to the range before and returns true; returns false at the first range, and stays.
     bool Prev() {
-      if (place_ == 0) return false;
-      go(place_ - 1);
-      return true;
+      const At& at = found_at();
+      return at.place > 0 && stand_if(read_at(index_, at.place - 1, at.state));
     }
 
-    // Goes to the range that has a leaf.
+    // Goes to the range that has a leaf. The range is looked for when more than its pairs is asked for, and is that of then.
     void Seek(Id target) {
-      const Range found = index_->index_.find(raw(target));
-      place_ = found.place;
-      here_ = Stand{found.start, found.limit, true};
-      knows_empty_ = false;
-      drop_page();
+      const std::uint64_t leaf = raw(target);
+      const std::uint32_t status = index_->index_.handle_.ask([&](::s2ix_handle* handle) {
+        if (!handle->is_open) return std::uint32_t{S2IX_CLOSED};
+        return std::uint32_t{detail::is_leaf(leaf) ? S2IX_DONE : S2IX_NO_CELL};
+      });
+      detail::check(status, [&](std::uint32_t why) { return detail::wrong_leaf(why, leaf); });
+      at_.start = leaf;
+      at_.known = Known::leaf;
+      leave_pages();
     }
 
     // Goes n ranges on and returns true, if there is a range; else it returns false and stays.
     bool Advance(int n) {
-      const std::size_t count = index_->index_.range_count();
-      if (n < 0 || done() || place_ >= count || static_cast<std::size_t>(n) >= count - place_) return false;
-      go(place_ + static_cast<std::size_t>(n));
-      return true;
+      if (n < 0 || done()) return false;
+      const At& at = found_at();
+      return stand_if(read_at(index_, at.place + static_cast<std::size_t>(n), at.state));
     }
 
    protected:
-    std::size_t place() const { return place_; }
-    std::size_t place_of(const Id& leaf) const { return index_->index_.find(raw(leaf)).place; }
-
-    // Makes a call that reads what is held.
-    template <class Call>
-    auto ask(Call call) const {
-      return index_->index_.handle_.ask(call);
+    // Goes to the range whose place a call finds, or after the last one if there is none. The call gets the state that it reads.
+    template <class Find, class Wrong = detail::NoneWrong>
+    void go(Find find, Wrong wrong = Wrong()) {
+      stand(read(index_, find, wrong).at);
+      at_.known = Known::all;
     }
 
-    // Goes to the range at a place, or after the last one if there is none.
-    void go(std::size_t place) {
-      const At found = found_at(index_, place);
-      place_ = found.place;
-      here_ = found.range;
-      knows_empty_ = true;
-      drop_page();
+    // Goes there and returns true, if there is one; else it returns false and stays.
+    template <class Find>
+    bool go_if(Find find) {
+      return stand_if(read(index_, find));
+    }
+
+    // What is known of where it stands: a leaf of the range; or place, start and limit too; or all.
+    enum class Known : unsigned char { leaf, range, all };
+
+    // Where it stands: at a range in a state, or after the last one, or at a leaf that was sought.
+    struct At {
+      std::size_t place = 0;
+      std::uint64_t state = 0;
+      std::uint64_t start = detail::end_of_leaves, limit = detail::end_of_leaves;
+      bool is_empty = true;
+      Known known = Known::all;
+
+      [[nodiscard]] bool is_known_empty() const { return known == Known::all && is_empty; }
+    };
+
+    // Where it stands, with the range.
+    const At& found_at() const {
+      if (at_.known == Known::leaf) at_ = found(index_, at_.start);
+      return at_;
     }
 
    private:
     friend class ContentsIterator;
 
-    using Stand = ::s2ix_leaf_range;
-    struct At {
-      std::size_t place;
-      Stand range;
+    struct Found {
+      At at;
+      bool is_there = true;
     };
 
-    // (what calls the library gets no pointer to the iterator, for which see detail::Apart)
-
-    // The range at a place, or what stands after the last one if there is none.
-    [[gnu::noinline]] static At found_at(const BasicS2CellIndex* index, std::size_t place) {
-      At found{place, {}};
-      const std::uint32_t status = read(index, place, found.range);
-      if (status == S2IX_NO_RANGE) return {index->index_.range_count(), {end_of_leaves, end_of_leaves, true}};
-      detail::check(status);
+    // The range whose place a call finds, or what stands after the last one if there is none.
+    template <class Find, class Wrong = detail::NoneWrong>
+    static Found read(const BasicS2CellIndex* index, Find find, Wrong wrong = Wrong()) {
+      Found found;
+      At& at = found.at;
+      const std::uint32_t answered = index->index_.handle_.ask_in_state([&](::s2ix_handle* handle, std::uint64_t state) {
+        at.state = state;
+        std::uint32_t status = find(handle, state, &at.place);
+        if (status == S2IX_DONE) status = s2ix_range(handle, at.place, &at.start, &at.limit, &at.is_empty);
+        if (status != S2IX_NO_RANGE) return status;
+        found.is_there = false;
+        at = At();
+        at.state = state;
+        return s2ix_range_count(handle, &at.place);
+      });
+      detail::check_stale(answered);
+      detail::check(answered, wrong);
       return found;
     }
 
-    [[gnu::noinline]] static bool is_empty_at(const BasicS2CellIndex* index, std::size_t place) {
-      Stand range{};
-      read(index, place, range);
-      return range.is_empty;
+    // The range at a place of a state, or what stands after the last one.
+    [[gnu::noinline]] static Found read_at(const BasicS2CellIndex* index, std::size_t its_place, std::uint64_t its_state) {
+      return read(index, [=](::s2ix_handle* handle, std::uint64_t state, std::size_t* place) {
+        *place = its_place;
+        return detail::unmoved(handle, state, its_state);
+      });
     }
 
-    static std::uint32_t read(const BasicS2CellIndex* index, std::size_t place, Stand& range) {
-      return index->index_.handle_.ask([&](::s2ix_handle* handle) { return s2ix_range(handle, place, &range.start, &range.limit, &range.is_empty); });
+    // The range that has a leaf; whether pairs lie over it is not asked.
+    [[gnu::noinline]] static At found(const BasicS2CellIndex* index, std::uint64_t leaf) {
+      At at;
+      detail::check(index->index_.handle_.ask_in_state([&](::s2ix_handle* handle, std::uint64_t state) {
+        at.state = state;
+        return s2ix_find(handle, leaf, &at.place, &at.start, &at.limit);
+      }));
+      at.known = Known::range;
+      return at;
     }
 
-    static constexpr std::size_t first_page = 16, longest_page = 512;
-
-    using Page = std::vector<Stand>;
-
-    // Reads a page of the ranges from a place on, twice as long as the last one up to the longest, and returns how many there are in it.
-    [[gnu::noinline]] static std::size_t next_page(const BasicS2CellIndex* index, std::size_t from, Page* page, std::size_t last) {
-      const std::size_t room = last == 0 ? first_page : std::min(2 * last, longest_page);
-      if (page->size() < room) page->resize(room);
-      std::size_t number = 0;
-      detail::check(index->index_.handle_.ask([&](::s2ix_handle* handle) { return s2ix_ranges(handle, from, page->data(), room, &number); }));
-      return number;
+    void stand(const At& at) {
+      at_ = at;
+      leave_pages();
     }
 
-    void drop_page() {
-      at_ = size_ = 0;
+    bool stand_if(const Found& found) {
+      if (found.is_there) stand(found.at);
+      return found.is_there;
+    }
+
+    void leave_pages() {
+      pages_.drop();
       goes_on_ = false;
     }
 
+    // Goes to the next range, or after the last one.
+    void go_on() {
+      const At& at = found_at();
+      stand(read_at(index_, at.place + 1, at.state).at);
+      at_.known = Known::all;
+      goes_on_ = !done();
+    }
+
+    struct Page {
+      std::vector<::s2ix_leaf_range> items;
+      std::size_t size = 0;
+    };
+
+    static constexpr std::size_t first_page = 16, longest_page = 512;
+
+    // Reads a page of the ranges from a place on, twice as long as the last one up to the longest, and returns how many there are in it.
+    [[gnu::noinline]] static std::size_t next_page(const BasicS2CellIndex* index, std::size_t from, std::uint64_t state, Page* page) {
+      const std::size_t room = page->size == 0 ? first_page : std::min(2 * page->size, longest_page);
+      if (page->items.size() < room) page->items.resize(room);
+      page->size = 0;
+      const std::uint32_t status = index->index_.handle_.ask_in_state([&](::s2ix_handle* handle, std::uint64_t now) {
+        const std::uint32_t unmoved = detail::unmoved(handle, now, state);
+        return unmoved == S2IX_DONE ? s2ix_ranges(handle, from, page->items.data(), room, &page->size) : unmoved;
+      });
+      detail::check_stale(status);
+      detail::check(status);
+      return page->size;
+    }
+
     // (first, so that nothing is assigned if memory for a copy of it is refused)
-    detail::Apart<Page> page_;
+    detail::Pages<Page> pages_;
     const BasicS2CellIndex* index_;
-    std::size_t place_ = 0;
-    mutable Stand here_{end_of_leaves, end_of_leaves, true};
-    // (Seek leaves it to is_empty() to ask for this)
-    mutable bool knows_empty_ = true;
-    // The ranges that follow, from at_ on, if several were gone along.
+    // (what is known grows when more is asked for)
+    mutable At at_;
+    // Whether it has gone on by Next, so that the ranges after it are read in pages.
     bool goes_on_ = false;
-    std::size_t at_ = 0, size_ = 0;
   };
 
   // Goes along the ranges over which some pair lies.
@@ -460,7 +508,9 @@ class BasicS2CellIndex {
    public:
     explicit NonEmptyRangeIterator(const BasicS2CellIndex* index) : RangeIterator(index) {}
 
-    void Begin() { go_on(0); }
+    void Begin() {
+      this->go([](::s2ix_handle* handle, std::uint64_t, std::size_t* place) { return s2ix_next_full(handle, 0, place); });
+    }
 
     // (of two ranges side by side, a pair lies over one at least)
     void Next() {
@@ -470,34 +520,43 @@ class BasicS2CellIndex {
 
     // Goes to the last such range before and returns true; returns false if there is none, and stays.
     bool Prev() {
-      std::size_t place = 0;
-      const std::uint32_t status = this->ask([&](::s2ix_handle* handle) { return s2ix_previous_full(handle, this->place(), &place); });
-      if (status == S2IX_NO_RANGE) return false;
-      detail::check(status);
-      this->go(place);
-      return true;
+      return this->go_if([at = this->found_at()](::s2ix_handle* handle, std::uint64_t state, std::size_t* place) {
+        const std::uint32_t unmoved = detail::unmoved(handle, state, at.state);
+        return unmoved == S2IX_DONE ? s2ix_previous_full(handle, at.place, place) : unmoved;
+      });
     }
 
     // Goes to the range that has a leaf, or to the next such range after it, or after the last one.
-    void Seek(Id target) { go_on(this->place_of(target)); }
-
-   private:
-    // Goes to the first such range from a place on, or after the last one.
-    void go_on(std::size_t from) {
-      std::size_t place = 0;
-      const std::uint32_t status = this->ask([&](::s2ix_handle* handle) { return s2ix_next_full(handle, from, &place); });
-      if (status == S2IX_NO_RANGE) return this->Finish();
-      detail::check(status);
-      this->go(place);
+    void Seek(Id target) {
+      const std::uint64_t leaf = raw(target);
+      this->go(
+          [leaf](::s2ix_handle* handle, std::uint64_t, std::size_t* place) {
+            std::uint64_t start = 0, limit = 0;
+            const std::uint32_t status = s2ix_find(handle, leaf, place, &start, &limit);
+            return status == S2IX_DONE ? s2ix_next_full(handle, *place, place) : status;
+          },
+          [leaf](std::uint32_t why) { return detail::wrong_leaf(why, leaf); });
     }
   };
 
   // Gives the pairs over ranges, each copy of each. If the ranges come in rising order, it gives no pair twice: after all pairs of a range
-  // were given, later ranges leave them out.
+  // were given, later ranges leave them out, until an edit moves the ranges. One that was moved from is as after Clear.
   class ContentsIterator {
    public:
     ContentsIterator() = default;  // call Init before all else
     explicit ContentsIterator(const BasicS2CellIndex* index) { Init(index); }
+    ContentsIterator(const ContentsIterator&) = default;
+    ContentsIterator(ContentsIterator&& other) noexcept
+        : rows_(std::move(other.rows_)), index_(other.index_), copy_(other.copy_), told_(std::exchange(other.told_, Told())) {}
+    ContentsIterator& operator=(const ContentsIterator&) = default;
+    ContentsIterator& operator=(ContentsIterator&& other) noexcept {
+      rows_ = std::move(other.rows_);
+      index_ = other.index_;
+      copy_ = other.copy_;
+      told_ = std::exchange(other.told_, Told());
+      return *this;
+    }
+    ~ContentsIterator() = default;
 
     void Init(const BasicS2CellIndex* index) {
       index_ = index;
@@ -507,57 +566,131 @@ class BasicS2CellIndex {
     // Forgets which ranges were visited.
     void Clear() {
       rows_.clear();
-      row_ = copy_ = 0;
-      told_ = start_ = limit_ = 0;
+      told_ = Told();
     }
 
-    // Goes to the range's first pair that was not given yet. If the range lies before the last one, all its pairs are given.
+    // Goes to the range's first pair that was not given yet. If the range lies before the last one, all its pairs are given. Throws
+    // StaleIterator if the ranges have moved since the range was found, and pairs may lie over it; then it is done, as after Clear.
     void StartUnion(const RangeIterator& range) {
-      if (range.here_.start < start_) told_ = 0;
-      start_ = range.here_.start;
-      limit_ = range.here_.limit;
-      row_ = copy_ = 0;
-      rows_.clear();
-      if (!range.knows_empty_ || !range.here_.is_empty) read(range.place_);
-      if (done()) told_ = limit_;
+      const Told told = told_;
+      const bool has_given_all = done();
+      Clear();
+      copy_ = 0;
+      if (range.at_.known == RangeIterator::Known::leaf && !told.has_range()) return start_at(range.at_.start);
+      start_at(range.at_, told, has_given_all);
     }
 
-    Id cell_id() const { return Id(rows_[row_].cell); }
-    Label label() const { return static_cast<Label>(rows_[row_].label); }
+    Id cell_id() const { return Id(rows_->cell); }
+    Label label() const { return static_cast<Label>(rows_->label); }
     LabelledCell labelled_cell() const { return LabelledCell(cell_id(), label()); }
 
     // Whether all pairs of the range have been given. If so, call neither Next nor what reads a pair.
-    bool done() const { return row_ == rows_.size(); }
+    bool done() const { return rows_.done(); }
 
     void Next() {
-      if (++copy_ < rows_[row_].count) return;
+      if (++copy_ < rows_->count) return;
       copy_ = 0;
-      if (++row_ == rows_.size()) told_ = limit_;
+      rows_.next();
     }
 
    private:
-    // Reads the pairs over the range at a place that were not given yet.
-    void read(std::size_t place) {
-      detail::check(index_->index_.handle_.ask([&](::s2ix_handle* handle) {
-        return rows_.fill([&](Row* to, std::size_t room, std::size_t* number) { return s2ix_contents(handle, place, told_, to, room, number); });
+    using At = typename RangeIterator::At;
+
+    // What was given, of a state.
+    struct Told {
+      std::uint64_t state = 0;
+      // Pairs whose cells begin before `from` were given over an earlier range. The last range begins and ends with these leaves.
+      std::uint64_t from = 0, start = 0, limit = 0;
+      // A leaf of the last range, if that was the first and no more is known of it.
+      std::uint64_t leaf = 0;
+
+      [[nodiscard]] bool has_range() const { return (limit | leaf) != 0; }
+
+      // Goes to the range at which an iterator stands. `has_given_all` says whether all pairs of the last one were given.
+      void go_to(const At& at, bool has_given_all) {
+        if (at.state != state) *this = Told();
+        if (has_given_all) from = limit;
+        if (at.start < start) from = 0;
+        start = at.start;
+        limit = at.limit;
+        leaf = 0;
+        state = at.state;
+      }
+    };
+
+    // Reads all pairs over a leaf.
+    void start_at(std::uint64_t leaf) {
+      detail::check(index_->index_.handle_.ask_in_state([&](::s2ix_handle* handle, std::uint64_t state) {
+        told_.state = state;
+        return rows_.fill([&](Row* to, std::size_t room, std::size_t* number) { return s2ix_at(handle, leaf, to, room, number); });
       }));
+      told_.leaf = leaf;
     }
 
-    const BasicS2CellIndex* index_ = nullptr;
+    // Reads the pairs over the range at which an iterator stands, but those that were told before.
+    [[gnu::noinline]] void start_at(At at, Told told, bool has_given_all) {
+      if (told.leaf != 0 || !at.is_known_empty()) {
+        const std::uint32_t status = index_->index_.handle_.ask_in_state(
+            [&](::s2ix_handle* handle, std::uint64_t state) { return read(handle, state, at, told, has_given_all); });
+        // (a place may be gone only if an edit through handle() moved the ranges)
+        detail::check_stale(status == S2IX_NO_RANGE ? detail::ranges_moved : status);
+        detail::check(status);
+      } else {
+        told.go_to(at, has_given_all);
+      }
+      told_ = told;
+    }
+
+    // Finds what isn't known yet of where an iterator stands and of the last range, and reads.
+    std::uint32_t read(::s2ix_handle* handle, std::uint64_t state, At& at, Told& told, bool has_given_all) {
+      std::size_t place = 0;
+      if (told.leaf != 0 && told.state == state) s2ix_find(handle, told.leaf, &place, &told.start, &told.limit);
+      if (at.known == RangeIterator::Known::leaf) {
+        const std::uint32_t status = s2ix_find(handle, at.start, &at.place, &at.start, &at.limit);
+        if (status != S2IX_DONE) return status;
+        at.state = state;
+      }
+      told.go_to(at, has_given_all);
+      if (at.is_known_empty()) return S2IX_DONE;
+      const std::uint32_t unmoved = detail::unmoved(handle, state, at.state);
+      if (unmoved != S2IX_DONE) return unmoved;
+      return rows_.fill([&](Row* to, std::size_t room, std::size_t* number) { return s2ix_contents(handle, at.place, told.from, to, room, number); });
+    }
+
     detail::FewRows rows_;
-    std::size_t row_ = 0;
+    const BasicS2CellIndex* index_ = nullptr;
     std::uint32_t copy_ = 0;
-    // Pairs whose cells begin before `told_` were given over an earlier range. The last range begins and ends with these leaves.
-    std::uint64_t told_ = 0, start_ = 0, limit_ = 0;
+    Told told_;
   };
 
  private:
-  static constexpr std::uint64_t end_of_leaves = 0xc000000000000001;
-
   static std::uint64_t raw(const Id& id) { return Cell(id).number(); }
 
   static void check_label(Label label) {
     if (label < 0) detail::refuse(S2IX_NO_LABEL, detail::wrong_label(S2IX_NO_LABEL, {static_cast<std::uint32_t>(label)}));
+  }
+
+  // Calls a visitor with the pairs that share a leaf with a union.
+  template <class Union, class Visitor>
+  bool visit_met(const Union& target, Visitor& visitor) const {
+    const detail::Given cells(target);
+    const Index& beneath = built();
+    const detail::Handle::Visit visit(beneath.handle_);
+    // (in pages that grow, so that a visit which ends early reads little of a long list)
+    detail::Page<Row> page;
+    std::size_t from = 0;
+    for (std::size_t most = page.least;; most *= 4) {
+      const std::size_t number = Index::put_met(visit, cells, from, page.data(), most);
+      for (const Row& row : Items<Row>(page.data(), page.data() + number)) {
+        std::uint32_t copy = 0;
+        do {
+          if (!visitor(Id(row.cell), static_cast<Label>(row.label))) return false;
+        } while (++copy < row.count);
+      }
+      if (number < most) return true;
+      from += most;
+      page.grow(4 * most);
+    }
   }
 
   // Calls a function with the labels of the pairs that share a leaf with a union, which rise.
@@ -572,15 +705,17 @@ class BasicS2CellIndex {
 
   // The index with all that was added. If the library refuses the adds, the index is as it was, and they wait for the next Build().
   Index& built() const {
-    if (has_added_.load(std::memory_order_acquire)) {
-      const std::lock_guard<std::mutex> held(building_);
-      if (!added_.empty()) {
-        index_.add_all(added_);
-        added_.clear();
-      }
-      has_added_.store(false, std::memory_order_release);
-    }
+    if (has_added_.load(std::memory_order_acquire)) build();
     return index_;
+  }
+
+  [[gnu::noinline]] void build() const {
+    const std::lock_guard<std::mutex> held(building_);
+    if (!added_.empty()) {
+      index_.add_all(added_);
+      added_.clear();
+    }
+    has_added_.store(false, std::memory_order_release);
   }
 
   Limits limits_;

@@ -10,6 +10,7 @@
 #include <cstddef>
 #include <cstdint>
 #include <cstdio>
+#include <cstring>
 #include <initializer_list>
 #include <iterator>
 #include <new>
@@ -90,6 +91,10 @@ class Error : public std::runtime_error {
   [[nodiscard]] std::optional<Row> pair() const noexcept { return where_.pair; }
   [[nodiscard]] std::size_t later() const noexcept { return where_.later; }
 
+ protected:
+  // (what a status says is not enough)
+  Error(std::uint32_t status, const char* words) : std::runtime_error(words), status_(status) {}
+
  private:
   static std::string text(std::uint32_t status, const Where& where) {
     std::string words = "s2ix: " + status_text(status);
@@ -133,6 +138,15 @@ template <class Items>
 struct HasCells<Items, std::void_t<decltype(std::begin(std::declval<const Items&>()) != std::end(std::declval<const Items&>()))>> {
   using Item = std::decay_t<decltype(*std::begin(std::declval<const Items&>()))>;
   static constexpr bool value = HasId<Item>::value || (std::is_unsigned_v<Item> && sizeof(Item) == sizeof(std::uint64_t));
+};
+
+// Whether the cells of a range lie side by side as numbers do, as in a vector of S2CellIds. It is told by the range's iterator.
+template <class Iterator>
+struct LieAsNumbers {
+  using Item = std::decay_t<decltype(*std::declval<Iterator>())>;
+  static constexpr bool value = (std::is_pointer_v<Iterator> || std::is_same_v<Iterator, typename std::vector<Item>::const_iterator>) &&
+                                std::is_standard_layout_v<Item> && std::has_unique_object_representations_v<Item> &&
+                                sizeof(Item) == sizeof(std::uint64_t) && alignof(Item) == alignof(std::uint64_t);
 };
 
 }  // namespace detail
@@ -191,8 +205,15 @@ class Cells {
 
 namespace detail {
 
-// The Cells that a call takes. It has no copy of numbers in braces, in a vector or in other Cells, since these live as long as the call.
-// So it is for parameters alone. Few cells of another range lie in it, and want no memory.
+// The first number of a leaf behind the last face.
+inline constexpr std::uint64_t end_of_leaves = 0xc000000000000001;
+
+// Whether a number is a leaf's.
+[[nodiscard]] constexpr bool is_leaf(std::uint64_t number) noexcept { return number % 2 != 0 && number < end_of_leaves; }
+
+// The Cells that a call takes. It has no copy of numbers in braces, in a vector or in other Cells, since these live as long as the call, nor of
+// cells in a vector that have nothing but their number, as S2CellIds. So it is for parameters alone. Few cells of another range lie in it,
+// and want no memory.
 class Given : public Cells {
  public:
   using Cells::Cells;
@@ -202,7 +223,14 @@ class Given : public Cells {
   Given(std::initializer_list<std::uint64_t> cells) noexcept : Cells(cells.begin(), cells.size()) {}
   template <class Items, class = std::enable_if_t<HasCells<Items>::value>>
   Given(const Items& cells) {
-    const auto size = static_cast<std::size_t>(std::distance(std::begin(cells), std::end(cells)));
+    const auto first = std::begin(cells);
+    const auto size = static_cast<std::size_t>(std::distance(first, std::end(cells)));
+    if constexpr (LieAsNumbers<std::decay_t<decltype(first)>>::value) {
+      if (size > 0 && are_numbers(&*first, size)) {
+        refer_to(reinterpret_cast<const std::uint64_t*>(&*first), size);
+        return;
+      }
+    }
     if (size > few) {
       copy(cells);
     } else {
@@ -213,8 +241,28 @@ class Given : public Cells {
   Given(const Given&) = delete;
   Given& operator=(const Given&) = delete;
 
+  // Whether it is one leaf alone.
+  [[nodiscard]] bool is_one_leaf() const noexcept {
+    if (size() != 1) return false;
+    // (the cell may be no std::uint64_t of the caller)
+    std::uint64_t number = 0;
+    std::memcpy(&number, data(), sizeof number);
+    return is_leaf(number);
+  }
+
  private:
   static constexpr std::size_t few = 16;
+
+  // Whether each cell has the bytes of its number. (The compiler sees that S2CellIds have, and leaves the loop out.)
+  template <class Item>
+  [[nodiscard]] static bool are_numbers(const Item* cells, std::size_t size) {
+    for (std::size_t k = 0; k < size; k++) {
+      std::uint64_t number = 0;
+      std::memcpy(&number, static_cast<const void*>(cells + k), sizeof number);
+      if (number != Cell(cells[k]).number()) return false;
+    }
+    return true;
+  }
 
   std::uint64_t few_[few];
 };

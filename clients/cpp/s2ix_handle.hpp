@@ -1,4 +1,4 @@
-// The handle of an Index, and the room in which its queries put what they find, for C++17. Include s2ix.hpp, which says more.
+// The handle of an Index, which threads may share, for C++17. Include s2ix.hpp, which says more.
 #ifndef S2IX_HANDLE_HPP
 #define S2IX_HANDLE_HPP
 
@@ -15,7 +15,6 @@
 #include <stdexcept>
 #include <thread>
 #include <utility>
-#include <vector>
 
 #if __has_include(<sys/single_threaded.h>)
 #include <sys/single_threaded.h>
@@ -81,7 +80,8 @@ class Reader {
 
   [[nodiscard]] ::s2ix_handle* copy() noexcept { return &copy_; }
 
-  // Whether the copy shows a state of the store.
+  // The state of the store that the copy shows.
+  [[nodiscard]] std::uint64_t state() const noexcept { return state_; }
   [[nodiscard]] bool shows(std::uint64_t state) const noexcept { return state_ == state; }
 
   // Makes a copy of a store in a state, unless memory is refused.
@@ -126,6 +126,7 @@ class Handle {
       ::s2ix_handle before = std::exchange(handle_, other.taken_out());
       s2ix_close(&before);
       delete readers_.exchange(nullptr);
+      state_ += 2;
     }
     return *this;
   }
@@ -137,8 +138,15 @@ class Handle {
   // Makes a call that reads what is held.
   template <class Call>
   auto ask(Call call) const {
-    if (const Taken<Reader> own = own_reader(Use::asked)) return call(own->item.copy());
-    return in_turn(call);
+    const Asked asked(*this);
+    return call(asked.handle());
+  }
+
+  // The same for a call that wants to know in which state that is. Each edit leads to another one.
+  template <class Call>
+  auto ask_in_state(Call call) const {
+    const Asked asked(*this);
+    return call(asked.handle(), asked.state());
   }
 
   // Makes a call with the store itself, while no other has it.
@@ -184,7 +192,8 @@ class Handle {
   // A visit of the store by several calls, which lasts as long as this lives. All see one state.
   class Visit {
    public:
-    explicit Visit(const Handle& handle) noexcept : handle_(handle), own_(handle.own_reader(Use::visited)) {
+    explicit Visit(const Handle& handle) noexcept
+        : handle_(handle), own_(S2IX_ONLY_THREAD ? Taken<Reader>() : handle.own_reader(Use::visited)) {
       if (!own_) add(1);
     }
     Visit(const Visit&) = delete;
@@ -197,8 +206,9 @@ class Handle {
     template <class Call>
     auto ask(Call call) const {
       // (the state moves only if the store is closed)
-      if (own_ && own_->item.shows(handle_.shown())) return call(own_->item.copy());
-      return handle_.in_turn(call);
+      const bool is_own = own_ && own_->item.shows(handle_.shown());
+      const Turn turn(is_own ? nullptr : &handle_);
+      return call(is_own ? own_->item.copy() : &handle_.handle_);
     }
 
    private:
@@ -225,6 +235,43 @@ class Handle {
   }
 
  private:
+  // A turn with the store itself for what is asked of a handle, if there is one, which lasts as long as this lives.
+  class Turn {
+   public:
+    explicit Turn(const Handle* handle) : handle_(S2IX_ONLY_THREAD ? nullptr : handle) {
+      if (handle_ != nullptr) handle_->take_turn();
+    }
+    Turn(const Turn&) = delete;
+    Turn& operator=(const Turn&) = delete;
+    ~Turn() {
+      if (handle_ != nullptr) handle_->turns_.unlock();
+    }
+
+   private:
+    const Handle* handle_;
+  };
+
+  // What is asked, as long as this lives: the thread's own copy if that shows what is held, and else the store itself in turn.
+  class Asked {
+   public:
+    explicit Asked(const Handle& handle) : handle_(handle), is_shared_(!S2IX_ONLY_THREAD) {
+      if (is_shared_) own_ = handle.own_or_turn();
+    }
+    Asked(const Asked&) = delete;
+    Asked& operator=(const Asked&) = delete;
+    ~Asked() {
+      if (is_shared_) handle_.give_back(own_);
+    }
+
+    [[nodiscard]] ::s2ix_handle* handle() const noexcept { return own_ == nullptr ? &handle_.handle_ : own_->item.copy(); }
+    [[nodiscard]] std::uint64_t state() const noexcept { return own_ == nullptr ? handle_.shown() : own_->item.state(); }
+
+   private:
+    const Handle& handle_;
+    const bool is_shared_;
+    Slot<Reader>* own_ = nullptr;
+  };
+
   // The state that an edit leads to. While this lives, state_ is odd.
   class Next {
    public:
@@ -252,7 +299,7 @@ class Handle {
 
   // The thread's reader, if its copy shows what is held.
   Taken<Reader> own_reader(Use use) const noexcept {
-    Slots<Reader>* readers = S2IX_ONLY_THREAD ? nullptr : readers_.load(std::memory_order_acquire);
+    Slots<Reader>* readers = readers_.load(std::memory_order_acquire);
     if (readers == nullptr) return {};
     Taken<Reader> own = readers->take(use);
     if (!own) return {};
@@ -267,14 +314,21 @@ class Handle {
     return {};
   }
 
-  // Makes a call that reads what is held with the store itself, while no other has it.
-  template <class Call>
-  auto in_turn(Call call) const {
-    if (S2IX_ONLY_THREAD) return call(&handle_);
+  // Waits for the store itself, to ask it.
+  void take_turn() const {
     const bool is_free = turns_.try_lock();
     if (!is_free || turns_.is_awaited()) share(is_free);
-    const std::lock_guard<Turns> held(turns_, std::adopt_lock);
-    return call(&handle_);
+  }
+
+  // The slot of the thread's reader, if its copy shows what is held; else none, and the thread has the store itself. Give back either.
+  // (These are calls, so that what one thread alone does is short.)
+  [[gnu::noinline]] Slot<Reader>* own_or_turn() const {
+    Slot<Reader>* const own = own_reader(Use::asked).release();
+    if (own == nullptr) take_turn();
+    return own;
+  }
+  [[gnu::noinline]] void give_back(Slot<Reader>* own) const noexcept {
+    own == nullptr ? turns_.unlock() : GiveBack()(own);
   }
 
   // Waits for the lock if the thread doesn't have it yet. Threads have lost time, so there may be a copy for what this one asks next.
@@ -337,102 +391,6 @@ class Handle {
   // (a query changes no store, but it takes the store out of the handle and puts it back)
   mutable ::s2ix_handle handle_{};
   [[maybe_unused]] char next_is_apart_[apart] = {};
-};
-
-// Room in which a query puts what it finds. A thread keeps it for its next query: the library wants initialised room, and so it is initialised
-// once. A query within another, as in a visit, has room of its own.
-template <class Item>
-class Page {
- public:
-  Page() : size_(kept().size), items_(std::exchange(kept().items, nullptr)) {
-    if (items_ == nullptr) grow(least);
-  }
-  Page(const Page&) = delete;
-  Page& operator=(const Page&) = delete;
-  ~Page() {
-    if (items_ != nullptr) keep();
-  }
-
-  [[nodiscard]] Item* data() noexcept { return items_; }
-  [[nodiscard]] std::size_t size() const noexcept { return size_; }
-
-  // Has room for so many items at least. If there was less, what it held is lost.
-  void grow(std::size_t size) {
-    if (size <= size_ && items_ != nullptr) return;
-    delete[] std::exchange(items_, nullptr);
-    items_ = new Item[size]();
-    size_ = size;
-  }
-
-  // How much room there is at first.
-  static constexpr std::size_t least = 1024;
-
- private:
-  // (so that one long answer doesn't hold memory for good)
-  static constexpr std::size_t most_kept = 4 * least;
-
-  // What a thread keeps, until its end. It has no destructor, so that a destructor which asks later still finds it.
-  struct Kept {
-    Item* items;
-    std::size_t size;
-    bool has_ended;
-  };
-  struct End {
-    ~End() {
-      delete[] std::exchange(kept().items, nullptr);
-      kept().has_ended = true;
-    }
-  };
-
-  static Kept& kept() noexcept {
-    static thread_local Kept kept{nullptr, 0, false};
-    return kept;
-  }
-
-  void keep() noexcept {
-    Kept& here = kept();
-    if (here.items != nullptr || here.has_ended || size_ > most_kept) {
-      delete[] items_;
-      return;
-    }
-    static thread_local const End end{};
-    (void)&end;
-    here.items = items_;
-    here.size = size_;
-  }
-
-  std::size_t size_;
-  Item* items_;
-};
-
-// Rows that an object keeps: few of them lie in it.
-class FewRows {
- public:
-  [[nodiscard]] const ::s2ix_row& operator[](std::size_t place) const noexcept { return more_.empty() ? few_[place] : more_[place]; }
-  [[nodiscard]] std::size_t size() const noexcept { return size_; }
-  void clear() noexcept { size_ = 0; }
-
-  // Puts the list of a call in place of the rows, and returns the status of the call. If it is refused, there are no rows.
-  template <class Call>
-  std::uint32_t fill(Call call) {
-    size_ = 0;
-    std::size_t number = 0;
-    std::uint32_t status = more_.empty() ? call(few_, few, &number) : call(more_.data(), more_.size(), &number);
-    if (status == S2IX_NO_ROOM) {
-      more_.resize(number);
-      status = call(more_.data(), more_.size(), &number);
-    }
-    if (status == S2IX_DONE) size_ = number;
-    return status;
-  }
-
- private:
-  static constexpr std::size_t few = 16;
-
-  ::s2ix_row few_[few] = {};
-  // (empty, or room for the longest list so far)
-  std::vector<::s2ix_row> more_;
-  std::size_t size_ = 0;
 };
 
 }  // namespace detail

@@ -6,6 +6,7 @@
 #include "s2ix_changes.hpp"
 #include "s2ix_each.hpp"
 #include "s2ix_handle.hpp"
+#include "s2ix_room.hpp"
 
 #include <algorithm>
 #include <cstddef>
@@ -720,11 +721,11 @@ class Index {
 
   // Puts a page of what meet gives in a visit, from a place on, into some room, and returns how many pairs that is: less than `room` only if
   // the list ends there.
-  static std::size_t put_met(const detail::Handle::Visit& visit, const Cells& cells, std::size_t from, Row* rows, std::size_t room) {
+  static std::size_t put_met(const detail::Handle::Visit& visit, const detail::Given& cells, std::size_t from, Row* rows, std::size_t room) {
     std::size_t number = 0;
     const std::uint32_t status = visit.ask([&](::s2ix_handle* handle) {
       // (a leaf has a quicker call, which puts the same pairs in the same order)
-      if (from == 0 && cells.size() == 1 && s2ix_cell_is_leaf(*cells.data())) {
+      if (from == 0 && cells.is_one_leaf()) {
         const std::uint32_t found = s2ix_at(handle, *cells.data(), rows, room, &number);
         if (found != S2IX_NO_ROOM) return found;
       }

@@ -85,6 +85,15 @@ namespace {
 constexpr std::uint64_t kFirst = 0x0400000000000000, kLeaf = 0x0400000000000001, kFace = 0x1000000000000000, kOther = 0x3000000000000000;
 constexpr std::size_t kMany = 20000;
 
+// A class of ids, as S2's.
+struct SomeId {
+  explicit SomeId(std::uint64_t raw) : raw_(raw) {}
+  std::uint64_t id() const { return raw_; }
+
+ private:
+  std::uint64_t raw_;
+};
+
 // How often a call asks the library, and how many bytes it takes.
 struct Cost {
   int asked;
@@ -245,10 +254,14 @@ void AsksOnceAsInS2() {
   std::set<int> labels;
   int visited = 0;
   const s2ix::S2CellIndex::CellVisitor visitor = [&](std::uint64_t, int) { return ++visited > 0; };
+  // (cells that have nothing but their numbers are not copied, nor is a visitor put elsewhere)
+  const std::vector<SomeId> ids(100, SomeId(kLeaf));
+  const auto visit = [&, many = std::vector<int>()](std::uint64_t, int) { return ++visited > 0; };
   for (const int taken : {1, 0}) {
     EXPECT((CostOf([&] { index.VisitIntersectingCells(leaf, visitor); }).taken > 0) == (taken > 0));
     const Cost cost = CostOf([&] { index.VisitIntersectingCells(target, visitor); });
     EXPECT(cost.asked == 1 && cost.taken == 0 && visited == 2000);
+    EXPECT(CostOf([&] { index.VisitIntersectingCells(ids, visit); }).taken == 0 && visited == 3000);
     visited = 0;
     index.GetIntersectingLabels(target, &labels);
   }
@@ -267,7 +280,16 @@ void AsksOnceAsInS2() {
     contents.StartUnion(range);
     EXPECT(!contents.done());
   });
-  EXPECT(cost.asked == 2 && cost.taken == 0);
+  EXPECT(cost.asked == 1 && cost.taken == 0);
+  cost = CostOf([&] {
+    s2ix::S2CellIndex::RangeIterator range(&index);
+    range.Seek(kOther + 1);
+    EXPECT(range.start_id() == kOther + 1 && range.limit_id() == kOther + 3 && !range.is_empty() && range.Prev() && range.Advance(1));
+    s2ix::S2CellIndex::ContentsIterator contents(&index);
+    contents.StartUnion(range);
+    EXPECT(!contents.done());
+  });
+  EXPECT(cost.asked == 5 && cost.taken == 0);
   // (each leaf is a range, and pages of these grow to 512)
   cost = CostOf([&] {
     s2ix::S2CellIndex::RangeIterator range(&index);

@@ -198,8 +198,13 @@ void AlongContents(const IndexOf<Id>& index, const Model& model, std::mt19937_64
     const std::size_t place = turn % 3 == 0 ? chance() % model.count() : std::min(last + chance() % 3, model.count() - 1);
     if (chance() % 10 == 0) other.Clear(), told = -1, last = 0;
     if (place < last) told = -1;
-    range.Begin();
-    EXPECT(range.Advance(static_cast<int>(place)) || place == model.count());
+    if (chance() % 2 == 0) {
+      // (a leaf of the range, which is looked for by StartUnion)
+      range.Seek(Id(model.starts[place] + 2 * (chance() % ((model.starts[place + 1] - model.starts[place]) / 2))));
+    } else {
+      range.Begin();
+      EXPECT(range.Advance(static_cast<int>(place)));
+    }
     other.StartUnion(range);
     const Pairs wanted = model.Over(place, told);
     EXPECT(other.done() == wanted.empty());
@@ -291,6 +296,15 @@ void BesideS2(const Pairs& pairs, std::mt19937_64& chance) {
   ours.VisitIntersectingCells(target, [&](S2CellId cell, int label) { return our_visit.insert({cell.id(), label}), true; });
   theirs.VisitIntersectingCells(target, [&](S2CellId cell, int label) { return their_visit.insert({cell.id(), label}), true; });
   EXPECT(our_visit == their_visit);
+  // (what programs do with S2's set of labels)
+  absl::flat_hash_set<int> labels = ours.GetIntersectingLabels(target), into = {-1};
+  EXPECT(labels == theirs.GetIntersectingLabels(target) && ours.GetIntersectingLabels(target) == theirs.GetIntersectingLabels(target));
+  ours.GetIntersectingLabels(target, &into);
+  EXPECT(into == labels && theirs.GetIntersectingLabels(target) == ours.GetIntersectingLabels(target));
+  labels = ours.GetIntersectingLabels(S2CellUnion());
+  EXPECT(labels.empty() && !into.empty() && (into = ours.GetIntersectingLabels(S2CellUnion()), into == labels));
+  const IndexOf<S2CellId>::CellVisitor visitor = [&](S2CellId cell, int label) { return our_visit.erase({cell.id(), label}), true; };
+  EXPECT(ours.VisitIntersectingCells(target, visitor) && our_visit.empty());
   Pairs met;
   for (const s2ix::Row& row : ours.index().meet(target)) {
     for (std::uint32_t copy = 0; copy < row.count; copy++) met.insert({row.cell, static_cast<int>(row.label)});

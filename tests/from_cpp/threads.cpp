@@ -138,6 +138,55 @@ void QueriedAsInS2() {
   }
 }
 
+// Asks by iterators of S2's names for what lies over a leaf of the second zone, and goes along all ranges, while another thread edits and so
+// moves the places of both. Returns how many answers are wrong.
+int WrongIterators(const s2ix::S2CellIndex& index) {
+  int wrong = 0;
+  s2ix::S2CellIndex::RangeIterator range(&index);
+  s2ix::S2CellIndex::ContentsIterator kept(&index);
+  for (int round = 0; round < kRounds; round++, rounds++) {
+    range.Seek(kSecond + 1);
+    s2ix::S2CellIndex::ContentsIterator contents(&index);
+    contents.StartUnion(range);
+    int over = 0;
+    for (; !contents.done(); contents.Next()) over += contents.cell_id() == kSecond || contents.cell_id() == kFace ? 1 : 100;
+    // (one that is kept may leave out what it gave before, if no edit came between)
+    int given = 0;
+    kept.StartUnion(range);
+    for (; !kept.done(); kept.Next()) given += kept.cell_id() == kSecond || kept.cell_id() == kFace ? 1 : 100;
+    wrong += over != 2 || (given != 0 && given != 2);
+    try {
+      range.Begin();
+      for (std::uint64_t start = 1; !range.done(); start = range.limit_id(), range.Next()) {
+        wrong += range.start_id() != start || range.limit_id() <= start;
+        contents.StartUnion(range);
+      }
+    } catch (const s2ix::StaleIterator&) {
+      // (an edit came between)
+    }
+  }
+  return wrong;
+}
+
+void IteratedWhileEdited() {
+  s2ix::S2CellIndex index;
+  index.Add(kSecond, 1);
+  index.Add(kFace, 2);
+  index.Build();
+  std::atomic<bool> ended{false};
+  std::thread editor([&] {
+    for (std::uint64_t turn = 0; !ended; turn++) {
+      for (const int before = rounds; rounds == before && !ended;) std::this_thread::yield();
+      EXPECT(index.index().add(kFirst + 1 + 2 * (turn % 50), 3) == 1);
+      if (turn % 3 != 0) EXPECT(index.index().undo() == 1);
+      if (turn % 100 == 99) index.index().drop_label(3), index.index().forget();
+    }
+  });
+  AtOnce([&] { EXPECT(WrongIterators(index) == 0); });
+  ended = true;
+  editor.join();
+}
+
 // An index is queried while the process has one thread, then by a visitor that starts threads, and when they have ended.
 void QueriedBeforeAndAfter() {
   s2ix::S2CellIndex index;
@@ -192,6 +241,7 @@ int main() {
   QueriedWhileEdited();
   EditedAtOnce();
   QueriedAsInS2();
+  IteratedWhileEdited();
   std::cout << passed << " passed, " << failed << " failed\n";
   return failed == 0 ? 0 : 1;
 }

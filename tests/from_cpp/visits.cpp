@@ -2,8 +2,15 @@
 // ends. It ends with 'N passed, M failed', after a line for each wrong answer.
 #include "s2ix.hpp"
 
+#include <algorithm>
+#include <functional>
 #include <iostream>
+#include <iterator>
+#include <list>
+#include <random>
 #include <set>
+#include <sstream>
+#include <string>
 #include <thread>
 
 namespace {
@@ -139,6 +146,73 @@ void SetOfLabels() {
   EXPECT(changed.empty() && changed == Index::LabelSet());
 }
 
+// Some of the calls that change a set of labels, in any order, as they change a std::set.
+void SetsAsStandardOnes() {
+  std::mt19937 chance(7);
+  Index::LabelSet labels;
+  std::set<int> wanted;
+  for (int turn = 0; turn < 4000; turn++) {
+    const int label = static_cast<int>(chance() % 50);
+    const auto place = static_cast<std::ptrdiff_t>(chance() % (labels.size() + 1));
+    const auto at = labels.begin() + place;
+    const auto other = std::next(wanted.begin(), place);
+    const std::list<int> more = {label, label + 7, label - 7, label};
+    switch (chance() % 10) {
+      case 0: EXPECT(labels.insert(label).second == wanted.insert(label).second); break;
+      case 1: EXPECT(*labels.insert(at, label) == *wanted.insert(other, label)); break;
+      case 2: EXPECT(*labels.emplace_hint(at, label) == *wanted.emplace_hint(other, label)); break;
+      case 3: EXPECT(labels.emplace(label).second == wanted.emplace(label).second); break;
+      case 4: labels.insert(more.begin(), more.end()), wanted.insert(more.begin(), more.end()); break;
+      case 5: labels.insert({label, 60}), wanted.insert({label, 60}); break;
+      case 6: labels.erase(at, labels.end()), wanted.erase(other, wanted.end()); break;
+      case 7: EXPECT(labels.erase(label) == wanted.erase(label)); break;
+      default:
+        if (at != labels.end()) EXPECT((labels.erase(at) == labels.end()) == (wanted.erase(other) == wanted.end()));
+    }
+    EXPECT(labels == wanted && std::equal(labels.begin(), labels.end(), wanted.begin(), wanted.end()) && labels.contains(label) == wanted.count(label));
+    EXPECT(std::distance(labels.begin(), labels.lower_bound(label)) == std::distance(wanted.begin(), wanted.lower_bound(label)));
+    EXPECT(std::distance(labels.begin(), labels.upper_bound(label)) == std::distance(wanted.begin(), wanted.upper_bound(label)));
+    EXPECT(static_cast<std::size_t>(std::distance(labels.equal_range(label).first, labels.equal_range(label).second)) == labels.count(label));
+  }
+}
+
+// A set of labels goes where programs for S2 put S2's set, and comes from there.
+void SetsOfLabelsElsewhere() {
+  const Index index = Zones(3);
+  std::set<int> ordered = {7};
+  std::unordered_set<int> hashed = {7};
+  std::vector<int> list = {7};
+  ordered = index.GetIntersectingLabels(Target{kFace});
+  hashed = index.GetIntersectingLabels(Target{kFace});
+  list = index.GetIntersectingLabels(Target{kFace});
+  EXPECT((ordered == std::set<int>{0, 1, 2} && hashed == std::unordered_set<int>{0, 1, 2} && list == std::vector<int>{0, 1, 2}));
+  Index::LabelSet labels;
+  labels = {5, 1};
+  labels.reserve(10);
+  std::set_union(ordered.begin(), ordered.end(), list.begin(), list.end(), std::inserter(labels, labels.end()));
+  EXPECT((labels == Index::LabelSet{0, 1, 2, 5} && std::vector<int>(labels.rbegin(), labels.rend()) == std::vector<int>{5, 2, 1, 0}));
+  std::istringstream words("9 3 9");
+  labels.insert(std::istream_iterator<int>(words), std::istream_iterator<int>());
+  EXPECT(labels == (std::set<int>{0, 1, 2, 3, 5, 9}) && Index::LabelSet(hashed.begin(), hashed.end()) == ordered);
+  Index::LabelSet others = {8};
+  swap(labels, others);
+  others.swap(labels);
+  EXPECT(*others.cbegin() == 8 && std::next(others.cbegin()) == others.cend() && labels.size() == 6);
+  // (S2's set returns nothing from this, so its programs go on before they erase)
+  for (auto at = labels.begin(); at != labels.end();) {
+    if (*at % 3 == 0) labels.erase(at++);
+    else ++at;
+  }
+  EXPECT((labels == std::set<int>{1, 2, 5} && labels.insert(0).second && labels.insert(2).first == std::next(labels.begin(), 2)));
+  others = std::move(labels);
+  EXPECT(labels.empty() && others.size() == 4 && labels.insert(4).second && labels.size() == 1);
+  labels.erase(labels.begin());
+  labels.erase(labels.begin(), labels.end());
+  EXPECT(labels.empty() && labels == Index::LabelSet() && (labels.insert({3, 1}), labels.size() == 2));
+  const Index::LabelSet moved(std::move(labels));
+  EXPECT(labels.empty() && labels.begin() == labels.end() && moved.contains(3));
+}
+
 // (what copies a page may throw)
 static_assert(!std::is_nothrow_copy_assignable_v<Index::CellIterator> && !std::is_nothrow_copy_assignable_v<Index::RangeIterator>);
 static_assert(std::is_nothrow_move_assignable_v<Index::CellIterator> && std::is_nothrow_move_assignable_v<Index::RangeIterator>);
@@ -173,6 +247,147 @@ void CopiedIterators() {
   const auto found = starts(range);
   range.Next();
   EXPECT(starts(other) == found && starts(range).size() + 1 == found.size());
+}
+
+// An iterator that was moved from is done, and is used again as a new one.
+void MovedIterators() {
+  const Index index = Zones(3000);
+  Index::CellIterator cells(&index);
+  for (int k = 0; k < 1500; k++) cells.Next();
+  const int label = cells.label();
+  Index::CellIterator other_cells(std::move(cells));
+  EXPECT(cells.done() && !other_cells.done() && other_cells.label() == label);
+  cells = std::move(other_cells);
+  EXPECT(other_cells.done() && !cells.done() && cells.label() == label);
+  other_cells = cells;
+  const Index::CellIterator copy_of_none = Index::CellIterator(std::move(cells));
+  cells = other_cells;
+  EXPECT(!copy_of_none.done() && other_cells.label() == label && cells.label() == label);
+
+  Index::RangeIterator range(&index), other_range(&index);
+  for (range.Begin(); range.start_id() < kLeaf;) range.Next();
+  range.Next();
+  const Cell start = range.start_id();
+  for (int turn = 0; turn < 2; turn++) {
+    other_range = std::move(range);
+    EXPECT(range.done() && range.is_empty() && !range.Prev() && !range.Advance(0) && range.start_id() == range.limit_id());
+    range.Next();
+    Index::ContentsIterator none(&index);
+    none.StartUnion(range);
+    EXPECT(range.done() && none.done() && !other_range.done() && other_range.start_id() == start);
+    range = Index::RangeIterator(std::move(other_range));
+    EXPECT(other_range.done() && range.start_id() == start && !range.is_empty());
+    Index::RangeIterator& same = range;
+    range = std::move(same);
+    EXPECT(range.start_id() == start);
+  }
+  other_range.Seek(kLeaf);
+  EXPECT(other_range.start_id() == kLeaf && other_range.Prev());
+
+  for (const Cell cell : {kLeaf, kOther}) {
+    range.Seek(cell);
+    Index::ContentsIterator contents(&index);
+    contents.StartUnion(range);
+    const bool is_empty = contents.done();
+    Index::ContentsIterator other(std::move(contents));
+    EXPECT(contents.done() && other.done() == is_empty);
+    contents.StartUnion(range);
+    EXPECT(contents.done() == is_empty && (is_empty || contents.labelled_cell() == other.labelled_cell()));
+    contents = std::move(other);
+    EXPECT(other.done() && contents.done() == is_empty);
+    std::size_t given = 0;
+    for (; !contents.done(); contents.Next()) given++;
+    EXPECT(given == Visited(index, {cell}).size());
+    contents = other;
+    EXPECT(contents.done());
+  }
+}
+
+// Whether a call is refused because the ranges have moved.
+template <class Call>
+bool IsStale(Call call) {
+  try {
+    call();
+  } catch (const s2ix::Error& error) {
+    return error.status() == S2IX_NO_RANGE && dynamic_cast<const s2ix::StaleIterator*>(&error) != nullptr &&
+           std::string(error.what()).find("moved") != std::string::npos;
+  }
+  return false;
+}
+
+// What is left of a ContentsIterator.
+Pairs Rest(Index::ContentsIterator& contents) {
+  Pairs pairs;
+  for (; !contents.done(); contents.Next()) pairs.emplace_back(contents.cell_id(), contents.label());
+  return pairs;
+}
+
+// The ways in which an index changes: after each, iterators that were positioned before say so, and what they know stays.
+void StaleIterators() {
+  using Change = void (*)(Index&);
+  const Change changes[] = {
+      [](Index& index) { index.Add(kOther, 5), index.Build(); },
+      [](Index& index) { index.index().drop_label(0); },
+      [](Index& index) { index.index().undo(); },
+      [](Index& index) { index.index().add(kLeaf, 7); },
+      [](Index& index) { index.Clear(); },
+      [](Index& index) { index = Zones(40); },
+  };
+  Index index = Zones(30);
+  for (const Change change : changes) {
+    Index::RangeIterator range(&index), sought(&index), unsought(&index);
+    Index::NonEmptyRangeIterator full(&index);
+    Index::ContentsIterator contents(&index), given(&index);
+    unsought.Seek(kLeaf);
+    sought.Seek(kLeaf);
+    const Cell start = sought.start_id();
+    full.Seek(kLeaf);
+    range.Begin();
+    const bool has_next = range.limit_id() != 0xc000000000000001;
+    range.Next();
+    given.StartUnion(full);
+    const Pairs before = Visited(index, {start});
+    change(index);
+    EXPECT(IsStale([&] { range.Next(); }) == has_next && IsStale([&] { range.Prev(); }) && IsStale([&] { sought.Advance(0); }));
+    EXPECT(IsStale([&] { (void)sought.is_empty(); }) && IsStale([&] { full.Prev(); }) && IsStale([&] { full.Next(); }));
+    EXPECT(IsStale([&] { contents.StartUnion(sought); }) && contents.done() && IsStale([&] { contents.StartUnion(full); }));
+    EXPECT(sought.start_id() == start && full.start_id() == start && !full.is_empty() && Rest(given) == before);
+    // (a range that wasn't looked for yet is that of now, and an iterator that is positioned anew goes on)
+    const Pairs now = Visited(index, {kLeaf});
+    contents.StartUnion(unsought);
+    EXPECT(Rest(contents) == now && unsought.is_empty() == now.empty());
+    given.StartUnion(unsought);
+    EXPECT(Rest(given) == now);
+    range.Seek(kLeaf);
+    contents.StartUnion(range);
+    EXPECT(contents.done() && range.is_empty() == now.empty() && (range.Next(), true));
+    contents.Clear();
+    contents.StartUnion(unsought);
+    EXPECT(Rest(contents) == now);
+    if (index.num_cells() == 0) index = Zones(30);
+  }
+  Index::RangeIterator range(&index);
+  range.Begin();
+  range.Next();
+  try {
+    index.index().drop_label(1000);
+    EXPECT(false);
+  } catch (const s2ix::Error&) {
+    // (an edit that is refused moves nothing)
+    EXPECT(range.Prev() && !range.is_empty());
+  }
+  index.index().close();
+  Index::ContentsIterator contents(&index);
+  int closed = 0;
+  const std::function<void()> calls[] = {[&] { range.Next(); }, [&] { range.Seek(kLeaf); }, [&] { contents.StartUnion(range); }};
+  for (const auto& call : calls) {
+    try {
+      call();
+    } catch (const s2ix::Error& error) {
+      closed += error.status() == S2IX_CLOSED;
+    }
+  }
+  EXPECT(closed == 3 && !range.done() && contents.done());
 }
 
 // A visit in a visit in a visit, each of several pages: none sees the rows of another.
@@ -291,7 +506,11 @@ int main() {
   TargetsOfIds();
   ManyLabels();
   SetOfLabels();
+  SetsAsStandardOnes();
+  SetsOfLabelsElsewhere();
   CopiedIterators();
+  MovedIterators();
+  StaleIterators();
   VisitsInVisits();
   VisitorsThatThrow();
   CellsAsTheyWere();
