@@ -32,8 +32,9 @@
    - in s2ix_apply, whatever is wrong after the journal's first line.
 
    A call wants no memory if it is given no rows, entries or cells, a label that is not held, equal bounds, or a page with no room. Nor do
-   s2ix_meet and s2ix_meet_from if they are given at most 128 cells that follow one another: the cells rise, and none lies within another, as
-   in each union of S2. The exception is s2ix_line, which may want memory for any query.
+   s2ix_meet and s2ix_meet_from if they are given at most 128 cells that follow one another: the cells rise, with or without gaps, and none
+   lies within another, as in each valid S2CellUnion. s2ix_meet_each wants none for such a target. The exception is s2ix_line, which may want
+   memory for any query.
 
    You must ensure this, since no call can check it:
 

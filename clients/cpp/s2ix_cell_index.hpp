@@ -88,7 +88,8 @@ inline void check_stale(std::uint32_t status) {
 //   no iterator is used after Build() or Clear()  these and each call that changes what index() holds or its changes move the ranges. Then a
 //                                                 RangeIterator keeps what it has read, and throws StaleIterator if it has to read more:
 //                                                 position it anew. A ContentsIterator keeps the pairs that StartUnion read, and may give
-//                                                 them again from then on. Of edits by index().handle() they learn nothing
+//                                                 them again after the edit; StartUnion throws StaleIterator if the range has moved and may
+//                                                 have pairs. Of edits by index().handle() they learn nothing
 //   a moved iterator leaves a copy behind         leaves one that is done
 //   a RangeIterator is unpositioned at first      is done at first, and its Prev() returns false
 //   Next() and limit_id() when done: undefined    Next() stays, and limit_id() returns the end of all leaves
@@ -349,7 +350,7 @@ class BasicS2CellIndex {
       return at.place > 0 && stand_if(read_at(index_, at.place - 1, at.state));
     }
 
-    // Goes to the range that has a leaf. The range is looked for when more than its pairs is asked for, and is that of then.
+    // Goes to the range that has a leaf. The range is looked for only when more than its pairs is asked for, among the ranges of that moment.
     void Seek(Id target) {
       const std::uint64_t leaf = raw(target);
       const std::uint32_t status = index_->index_.handle_.ask([&](::s2ix_handle* handle) {

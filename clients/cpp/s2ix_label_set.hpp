@@ -16,9 +16,9 @@ namespace s2ix {
 template <class Id>
 class BasicS2CellIndex;
 
-// A set of labels, in rising order. It is one list, since a hashed set takes longer to make than its labels to find. It has the calls that
-// std::set and absl::flat_hash_set share, and any set or vector of labels can be made of it, as by
-// `std::unordered_set<Label> labels = index.GetIntersectingLabels(target)`. Iterators to labels above those that are erased, and to the end,
+// A set of labels, in rising order. It is one list, since the labels come rising, and hashing them would take time. It has the calls that
+// std::set and absl::flat_hash_set share, but for merge, extract, max_size and get_allocator. Any set or vector of labels can be made of it, as
+// by `std::unordered_set<Label> labels = index.GetIntersectingLabels(target)`. Iterators to labels above those that are erased, and to the end,
 // stay right, so that a loop may erase by `labels.erase(at++)`. Any other change makes iterators wrong.
 class LabelSet {
  public:

@@ -376,8 +376,8 @@ class Index(Edits):
 
         At most `threads` threads share the leaves, and at most one for each 4,096 of them or part of these. The call releases the GIL while
         the library works, so other threads of the program run too, and may edit or close the index: all answers are of what the index held
-        when the call began. The rows that one thread finds stay where the library put them. Those of several are copied once more, and take
-        twice their memory until the call returns.
+        when the call began. The rows that one thread finds lie in one array, which is copied if it must grow. Those of several
+        threads are copied once more, and take twice their memory until the call returns.
 
         If processors are free for them, threads gain from about 16,000 leaves in no order on, or 65,000 that rise. For so many, over 10,000
         pairs, four threads together took 1.7 or 2.1 times as much of the processors' time as one, and for a million rising leaves 1.2
@@ -398,7 +398,8 @@ class Index(Edits):
 
     def labels_at_each(self, leaves: Cells, threads: int = 1) -> tuple[Any, Any]:
         """As `at_each`, but with labels in place of rows: an array of uint32, or without NumPy an `array`. So leaf k has
-        `labels[ends[k - 1]:ends[k]]`, the innermost cell's first. A label is repeated if a leaf lies in several cells of it.
+        `labels[ends[k - 1]:ends[k]]`, and the first one `labels[:ends[0]]`, the innermost cell's first. A label is repeated if a leaf lies in
+        several cells of it.
 
         >>> index = Index()
         >>> index.add("1", 3), index.add("04", 9)
