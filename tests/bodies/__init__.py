@@ -1,5 +1,6 @@
-"""Wrong bodies, for tests/wrong_bodies: `edits` has the bodies as they are written, `told` what the prover says of them, `trial` the checks and
-the verdicts, `refusals` those that this machine keeps, `clauses` which clause refuses a body, and `gate` which bodies the gate tries."""
+"""Wrong bodies, for tests/wrong_bodies: `edits` has the bodies as they are written, `compiler` whether they compile, `told` what the prover says of
+them, `trial` the checks and the verdicts, `refusals` those that this machine keeps, `clauses` which clause refuses a body, and `gate` which bodies
+the gate tries."""
 import os
 import sys
 
