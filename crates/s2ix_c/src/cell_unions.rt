@@ -54,6 +54,19 @@ pub extern "C" fn s2ix_union_from_leaves(
     }
 }
 
+// Lists the union that a call makes of the unions of two lists of cells, or gives why there is none.
+macro_rules! list_of_two {
+    ($alloc:expr, $out:expr, $number:expr, |$first:ident, $second:ident| $call:expr) => {
+        match normals_of($alloc, $first, $second, $number) {
+            Ok(($first, $second)) => match $call {
+                Ok(union) => put_cells(union.cells(), $out, $number),
+                Err(_) => OUT_OF_MEMORY,
+            },
+            Err(why) => why,
+        }
+    };
+}
+
 /// The normal list of the leaves of either union.
 #[unsafe(no_mangle)]
 pub extern "C" fn s2ix_union_union(
@@ -69,14 +82,12 @@ pub extern "C" fn s2ix_union_union(
     if first.is_empty() && second.is_empty() {
         return check_both(first, second, number); // neither has a leaf
     }
-    let (first, second) = match normals_of(alloc, first, second, number) {
-        Ok(unions) => unions,
-        Err(why) => return why,
-    };
-    match first.union(alloc, &second) {
-        Ok(union) => put_cells(union.cells(), out, number),
-        Err(_) => OUT_OF_MEMORY,
-    }
+    list_of_two!(
+        alloc,
+        out,
+        number,
+        |first, second| first.union(alloc, &second)
+    )
 }
 
 /// The normal list of the leaves of both unions.
@@ -94,14 +105,12 @@ pub extern "C" fn s2ix_union_intersection(
     if first.is_empty() || second.is_empty() {
         return check_both(first, second, number); // one has no leaf
     }
-    let (first, second) = match normals_of(alloc, first, second, number) {
-        Ok(unions) => unions,
-        Err(why) => return why,
-    };
-    match first.intersection(alloc, &second) {
-        Ok(union) => put_cells(union.cells(), out, number),
-        Err(_) => OUT_OF_MEMORY,
-    }
+    list_of_two!(
+        alloc,
+        out,
+        number,
+        |first, second| first.intersection(alloc, &second)
+    )
 }
 
 /// The normal list of the leaves of the first union that are not the second's.
@@ -119,14 +128,12 @@ pub extern "C" fn s2ix_union_difference(
     if first.is_empty() {
         return check_both(first, second, number); // the first has no leaf
     }
-    let (first, second) = match normals_of(alloc, first, second, number) {
-        Ok(unions) => unions,
-        Err(why) => return why,
-    };
-    match first.difference(alloc, &second) {
-        Ok(union) => put_cells(union.cells(), out, number),
-        Err(_) => OUT_OF_MEMORY,
-    }
+    list_of_two!(
+        alloc,
+        out,
+        number,
+        |first, second| first.difference(alloc, &second)
+    )
 }
 
 /// Whether each leaf of a cell is one of the union's.

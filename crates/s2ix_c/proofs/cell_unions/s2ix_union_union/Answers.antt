@@ -13,7 +13,7 @@ returns-then-is_empty-2-clause-list c =
     two_checked (numbers_by (λ a b. a || b)) c.args.first.now c.args.second.now c.args.out.now c.check_both.result c.check_both.new.number
     c.check_both.ensures.right c.check_both.ensures.wrong (λ a b first second. none_of_either a b (first none) (second no_more))
 
-pub returns-clause-list : goal.returns-clause-list
-returns-clause-list c =
+pub returns-in-Ok-clause-list : goal.returns-in-Ok-clause-list
+returns-in-Ok-clause-list c =
     two_want (numbers_by (λ a b. a || b)) c.args.first.now c.args.second.now c.args.out.now _ c.normals_of.new.number refl c.in-Ok.ensures.right
     c.in-Ok.ensures.first.0 c.in-Ok.ensures.second.0 c.in-Ok.ensures.first.1 c.in-Ok.ensures.second.1
