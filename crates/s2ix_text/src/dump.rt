@@ -15,6 +15,7 @@ ghost use Rattle.s2ix_text.specs.PairLines.{IsCut, IsDumped, IsNext, line_text, 
 
 use crate::dump_error::{DumpError, DumpFault};
 use crate::pair_line::{next_held, next_in_front};
+use crate::push::push;
 use itoa::Buffer;
 use s2id_core::OutOfMemory;
 use s2ix_bag_changes::Bag;
@@ -78,14 +79,6 @@ fn feeds_in(block: &[u8]) -> usize
         feeds = feeds.wrapping_add(u8::from(*byte == b'\n'));
     }
     usize::from(feeds)
-}
-
-// Appends a held pair.
-fn push(held: &mut Vec<FlatHeld>, next: Held) -> Result<(), OutOfMemory>
-    ensures { OnOk result (held.new.items ≡ held.old.items ++ next ∷ []) }
-{
-    held.push(FlatHeld::new(next))?;
-    Ok(())
 }
 
 // The next held pair of a dump of a version and what is after its line, below the lines of the pairs before, which have so many copies; or
@@ -160,7 +153,9 @@ fn read_below(
     let mut rest = text;
     while let Some((next, below)) = next_line(limits, version, held.as_slice(), copies, rest)? {
         copies += u64::from(next.count);
-        push(&mut held, next)?;
+        let Ok(()) = push(&mut held, FlatHeld::new(next)) else {
+            return Err(DumpError::OutOfMemory);
+        };
         rest = below;
     }
     Ok(held)

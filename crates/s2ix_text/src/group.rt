@@ -9,6 +9,7 @@ ghost use Rattle.s2ix_text_parts.specs.Lines.{is_nil, lines_of};
 
 use crate::entry_line::next_entry;
 use crate::journal_error::{JournalError, JournalFault};
+use crate::push::push;
 use s2ix_bag_pairs::{Entry, Limits};
 use s2ix_text_parts::cut_line;
 use std::alloc::{AllocError, Global};
@@ -24,14 +25,6 @@ fn room_for_entries(alloc: Global, size: usize, text: &[u8]) -> Result<Vec<Entry
     ensures asked { length text.now < 8 → IsOk result }
 {
     Vec::with_capacity(alloc, size.min(text.len() / SHORTEST_LINE))
-}
-
-// Appends an entry.
-fn push(entries: &mut Vec<Entry>, next: Entry) -> Result<(), AllocError>
-    ensures { OnOk result (entries.new.items ≡ entries.old.items ++ next ∷ []) }
-{
-    entries.push(next)?;
-    Ok(())
 }
 
 // The entries of a group of this size, with counts up to `greatest`, whose first line has this number, and the text below them; or the

@@ -18,19 +18,12 @@ ghost use Rattle.s2ix_text_parts.specs.Written.{cell_written, comes_before, labe
 use crate::change_line::{is_end_of, next_size};
 use crate::group::read_group;
 use crate::journal_error::{JournalError, JournalFault};
+use crate::push::push;
 use s2ix_bag_changes::Change;
 use s2ix_bag_pairs::Limits;
 use s2ix_text_parts::{cut_line, first_part};
 use s2ix_text_write::Version;
-use std::alloc::{AllocError, Global};
-
-// Appends a change.
-fn push(changes: &mut Vec<Change>, next: Change) -> Result<(), AllocError>
-    ensures { OnOk result (changes.new.items ≡ changes.old.items ++ next ∷ []) }
-{
-    changes.push(next)?;
-    Ok(())
-}
+use std::alloc::Global;
 
 // What is read below the header of a journal whose counts go up to `greatest`.
 fn read_groups(

@@ -35,6 +35,7 @@ pub mod laws;
 mod numbers;
 mod pair_line;
 mod parts;
+mod push;
 
 pub use dump::read_dump;
 pub use dump_error::{DumpError, DumpFault};

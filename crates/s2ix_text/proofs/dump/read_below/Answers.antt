@@ -1,6 +1,7 @@
 -- One line more.
-use Rattle.std.proofs.Common.{◌≡◌, ℕ, ◌+◌, ◌≤◌, ◌∷◌, [], ◌++◌, sym, subst, arith}
-use Rattle.std.proofs.lemmas.Result.{err_from_is_err_and}
+use Rattle.std.proofs.Common.{◌≡◌, ℕ, ◌+◌, ◌≤◌, ◌∷◌, [], ◌++◌, sym, ap, ◌∙◌, subst, arith}
+use Rattle.std.specs.Prelude.{OnOk}
+use Rattle.s2ix_bag_pairs.specs.declared.pair.Held.{Held}
 use Rattle.s2ix_bag_pairs.specs.Collection.{Collection, copies_in}
 use Rattle.s2ix_text_write.specs.Version.{dump_header}
 use Rattle.s2ix_text.specs.PairLines.{IsNext, line_text}
@@ -18,10 +19,9 @@ overflow_add-copies c =
     let copies : c.loop-held.copies ≡ copies_in c.loop-held.held.items = c.loop-held.invariant.copies in
     omega (arith, sum, copies, c.from-copies.ensures)
 
-pub returns-in_err-push-clause-refused : goal.returns-in_err-push-clause-refused
-returns-in_err-push-clause-refused c =
-    let p = err_from_is_err_and c.from_residual-in_err-push.result c.from_residual-in_err-push.ensures.1 in
-    rw (p.1, p.2) (wants_below c.args.limits (dump_header c.args.version) c.args.text.now)
+pub returns-in_default-push-clause-refused : goal.returns-in_default-push-clause-refused
+returns-in_default-push-clause-refused c =
+    wants_below c.args.limits (dump_header c.args.version) c.args.text.now
 
 pub loop-held-preserved : goal.loop-held-preserved
 loop-held-preserved c =
@@ -37,5 +37,8 @@ loop-held-preserved c =
     let summed =
     subst (λ (n : ℕ). IsReadSoFar c.args.limits (dump_header c.args.version) c.args.text.now (hs ++ c.in-Some.next ∷ [])
     (c.loop-held.copies + n) c.in-Some.below.now) (sym c.from-copies.ensures) more in
+    let pushed : c.push.new.list.items ≡ hs ++ c.in-Some.next ∷ [] =
+    subst (λ r. OnOk r (c.push.new.list.items ≡ hs ++ c.new.result ∷ [])) c.in-Ok.is c.push.ensures
+    ∙ ap (λ (held : Held). hs ++ held ∷ []) c.new.ensures in
     subst (λ (held : Collection). IsReadSoFar c.args.limits (dump_header c.args.version) c.args.text.now held
-    (c.loop-held.copies + c.from-copies.result) c.in-Some.below.now) (sym c.in_ok-push.ensures) summed
+    (c.loop-held.copies + c.from-copies.result) c.in-Some.below.now) (sym pushed) summed

@@ -71,7 +71,7 @@ loop-line-preserved c =
     journal_more c.args.greatest c.args.limits c.args.text.now cs c.loop-line.number c.in-Ok.size c.loop-line.rest.now c.in-Some.line.now
     c.in-Some.below.now c.in_ok-entries-in-Ok.after.now c.in_ok-entries-in-Ok.entries.items c.loop-line.invariant writes
     c.in-Some.ensures.cut c.in_ok-entries-in-Ok.ensures.entries c.in_ok-entries-in-Ok.ensures.size c.in_ok-entries-in-Ok.ensures.text in
-    let pushed : c.push.new.changes.items ≡ cs ++ c.in_ok-entries-in-Ok.entries.items ∷ [] =
+    let pushed : c.push.new.list.items ≡ cs ++ c.in_ok-entries-in-Ok.entries.items ∷ [] =
     c.in_ok-push-in-Ok.ensures ∙ ap (λ (es : List Entry). cs ++ es ∷ []) c.from_vec.ensures in
     subst (λ (xs : List (List Entry)). IsJournalSoFar c.args.greatest c.args.limits c.args.text.now xs (c.loop-line.number + (1 + c.in-Ok.size))
     c.in_ok-entries-in-Ok.after.now) (sym pushed) more
