@@ -1,5 +1,5 @@
 -- Calls on no cells, on no leaves, and on cells of which one is wrong or for which memory is wanted.
-use Rattle.std.proofs.Common.{◌≡◌, ◌≢◌, ◌<◌, ◌≤◌, ◌∙◌, ℕ, Bool, true, false, List, [], ◌∷◌, ◌++◌, length, map, refl, sym, ap, subst, inl, inr, arith, IsTrue}
+use Rattle.std.proofs.Common.{◌≡◌, ◌≢◌, ◌≤◌, ◌∙◌, ℕ, Bool, true, false, List, [], ◌∷◌, ◌++◌, length, map, refl, sym, ap, subst, inl, inr, arith, IsTrue}
 use Rattle.std.specs.Prelude.{◌&&◌, ◌||◌, ◌==◌, not, nat_le, nat_lt}
 use Rattle.std.proofs.lemmas.Bool.{and_parts, both_ways, cases_eq, or_cases}
 use Rattle.s2id_core.specs.declared.cell_id.CellId.{CellId}
