@@ -164,8 +164,9 @@ uint32_t s2ix_resume(s2ix_handle *handle, const uint8_t *dump, size_t dump_len, 
                      uint32_t copies, uint32_t changes, size_t *place, size_t *entry);
 
 /* Opens `copy` on a new store with the same pairs and limits, and with nothing to undo or redo. If the call is not refused, it
-   frees the store that `copy` had. The two stores share memory, and may be used at once on different threads. O(p) for the p parts of
-   some hundred pairs that the store is kept in, besides the freeing. S2IX_CLOSED, S2IX_OUT_OF_MEMORY. */
+   frees the store that `copy` had. The two stores share memory, and may be used at once on different threads. O(1), besides the freeing.
+   The first edit, undo or redo of one of them then takes O(p) more, for the p parts of some hundred pairs that a store is kept in.
+   S2IX_CLOSED, S2IX_OUT_OF_MEMORY. */
 uint32_t s2ix_copy(s2ix_handle *handle, s2ix_handle *copy);
 
 /* Closes a handle and frees all that its store had; a closed one stays closed. O(n). */

@@ -93,7 +93,8 @@ class Index {
   ~Index() = default;
 
   // An index that starts from what this one holds, with nothing to undo or redo. The two share memory, and may be used side by side on
-  // different threads. O(p) for the p parts of some hundred pairs that the store is kept in. S2IX_CLOSED.
+  // different threads. O(1); the first edit, undo or redo of one of them then takes O(p) more, for the p parts of some hundred pairs that a
+  // store is kept in. S2IX_CLOSED.
   [[nodiscard]] Index copy() const {
     Index index{Closed()};
     detail::check(handle_.ask([&](::s2ix_handle* handle) { return s2ix_copy(handle, index.handle_.unlocked()); }));

@@ -17,7 +17,8 @@ TOLD = re.compile(r"refused: (OutOfMemory|(Edit|Undo|Redo)\(OutOfMemory\)|Write)
 # A crate, a test of what a call needs, the same test with the call, and how many growths the call asks for: a bag's changed face takes six,
 # for its pairs, for their count of sharers, and for four short lists of its parts, and a face that loses its last pair takes two. A text of
 # nine pairs asks for as many as one of a pair. A copy of a table asks for five lists of its parts, and shares what is in these; a store's asks
-# for no more. A step of a store on one face asks for as many beside five other faces as without them.
+# for none, and the first step beside it for these five and the count of the new table's sharers. A step of a store on one face asks for as many
+# beside five other faces as without them, or after a copy that is gone.
 COUNTED = [
     ("s2ix_bag_tests", "refused_growths::nothing", "refused_growths::an_empty_bag", 0),
     ("s2ix_bag_tests", "refused_growths::a_bag", "refused_growths::a_copied_bag", 0),
@@ -31,7 +32,9 @@ COUNTED = [
     ("s2ix_edit_tests", "refused_growths::a_store_of_a_face", "refused_growths::an_edit_of_a_face", 27),
     ("s2ix_edit_tests", "refused_growths::an_edit_of_a_face", "refused_growths::an_undo_of_a_face", 23),
     ("s2ix_edit_tests", "refused_growths::an_undo_of_a_face", "refused_growths::a_redo_of_a_face", 21),
-    ("s2ix_edit_tests", "refused_growths::a_store_of_six_faces", "refused_growths::a_copied_store_of_six_faces", 5),
+    ("s2ix_edit_tests", "refused_growths::a_store_of_six_faces", "refused_growths::a_copied_store_of_six_faces", 0),
+    ("s2ix_edit_tests", "refused_growths::a_copied_store_of_six_faces", "refused_growths::an_edit_beside_a_copy", 33),
+    ("s2ix_edit_tests", "refused_growths::a_store_of_six_faces", "refused_growths::an_edit_after_a_copy", 27),
     ("s2ix_edit_tests", "refused_growths::a_store_of_six_faces", "refused_growths::an_edit_beside_five_faces", 27),
     ("s2ix_edit_tests", "refused_growths::an_edit_beside_five_faces", "refused_growths::an_undo_beside_five_faces", 23),
     ("s2ix_edit_tests", "refused_growths::an_undo_beside_five_faces", "refused_growths::a_redo_beside_five_faces", 21),

@@ -318,10 +318,10 @@ class Durable(Log):
 
     def group(self, *, note: Optional[str] = None, who: Optional[str] = None) -> Group:
         """As `Index.group`: the file keeps it as one step, with this note and no other, or not at all. Other threads' steps wait until it
-        ends; until then they and other tasks of asyncio see what was held before it, of which it makes a copy, O(p) as `copy`. Steps of
-        another task on the same thread can't wait, so they raise RuntimeError, unless the group began in no task. In it `redo` does again
-        only what was undone in it. Raises NotKept and OutOfMemory too; then all is undone. What a group did that failed can't be redone,
-        unlike in `Index.group`; what could be redone before it still can."""
+        ends; until then they and other tasks of asyncio see what was held before it, of which it makes a `copy`. Steps of another task on
+        the same thread can't wait, so they raise RuntimeError, unless the group began in no task. In it `redo` does again only what was
+        undone in it. Raises NotKept and OutOfMemory too; then all is undone. What a group did that failed can't be redone, unlike in
+        `Index.group`; what could be redone before it still can."""
         return Group(self, note, who)
 
     def transaction(self, *, note: Optional[str] = None, who: Optional[str] = None) -> Transaction:

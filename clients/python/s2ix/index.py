@@ -151,8 +151,8 @@ class Index(Edits):
 
     def copy(self) -> Index:
         """An index of its own that starts from what is held, under the same limits, with nothing to undo or redo. They share memory,
-        and calls on one need not wait for the other. O(p) for the p parts of some hundred pairs that an index is kept in. Raises Closed or
-        OutOfMemory.
+        and calls on one need not wait for the other. O(1); the first edit, undo or redo of one of them then takes O(p) more, for the p parts
+        of some hundred pairs that an index is kept in. Raises Closed or OutOfMemory.
 
         >>> index = Index()
         >>> other = index.copy()
@@ -383,9 +383,9 @@ class Index(Edits):
         pairs, four threads together took 1.7 or 2.1 times as much of the processors' time as one, and for a million rising leaves 1.2
         times. `bench/run` measures a million in no order: four threads answer 2.4 to 3.6 times as many of them in a second as one.
 
-        O(p + m log n + k) for m leaves and k rows, with p as in `copy` and for each thread. If a leaf is refused, none is answered. Raises
-        Closed, OutOfMemory, or NoCell with the first number that is no leaf's and its place, counted from 0; TypeError for arrays of other
-        numbers or with a mask, and for missing values; ValueError for threads below 1; and MemoryError.
+        O(m log n + k) for m leaves and k rows. If a leaf is refused, none is answered. Raises Closed, OutOfMemory, or NoCell with the first
+        number that is no leaf's and its place, counted from 0; TypeError for arrays of other numbers or with a mask, and for missing
+        values; ValueError for threads below 1; and MemoryError.
 
         >>> index = Index()
         >>> index.add("1", 3), index.add("04", 9)

@@ -17,6 +17,7 @@ mod join_error;
 mod joining;
 pub mod laws;
 mod record_error;
+mod shared_table;
 mod steps;
 mod store;
 mod store_table;

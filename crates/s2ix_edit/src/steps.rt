@@ -11,26 +11,25 @@ ghost use Rattle.s2ix_table.specs.Faces.{changed_count, faces_of};
 ghost use Rattle.s2ix_table.specs.Reading.{two_searches};
 ghost use Rattle.s2ix_edit.specs.Steps.{IsShifted, with_held};
 
-use crate::store_table::StoreTable;
+use crate::shared_table::SharedTable;
 use s2id_core::OutOfMemory;
 use s2ix_bag_changes::{Bag, Change};
 use s2ix_bag_lists::ApplyError;
 use s2ix_edit_plan::EditError;
 use s2ix_table::{BagReader, PairReader};
-use s2ix_table_queries::RangeTable;
 use std::alloc::Global;
 
 // Makes a table that of a bag to which a change has led from the table's bag, and returns how many pairs were read for it. With p pairs on the
 // f faces of the change and n in all, p to p + 2 * f * digits(n + 1) pairs are read. If a growth is refused the table stays.
 pub(crate) fn rebuild_for(
     alloc: Global,
-    table: &mut StoreTable,
+    table: &mut SharedTable,
     bag: &Bag,
     change: &Change,
 ) -> Result<u64, OutOfMemory>
-    requires { changed (⟦<StoreTable as RangeTable>⟧.pairs table.old) change.now ≡ bag.now.held }
-    ensures table { OnOk result (⟦<StoreTable as RangeTable>⟧.pairs table.new ≡ bag.now.held) }
-    ensures stays { OnErr result (⟦<StoreTable as RangeTable>⟧.pairs table.new ≡ ⟦<StoreTable as RangeTable>⟧.pairs table.old) }
+    requires { changed table.old change.now ≡ bag.now.held }
+    ensures table { OnOk result (table.new ≡ bag.now.held) }
+    ensures stays { OnErr result (table.new ≡ table.old) }
     ensures reads_all { IfOk result (λ reads. changed_count change.now bag.now.held ≤ reads) }
     ensures reads_few { IfOk result (λ reads.
         reads ≤ changed_count change.now bag.now.held + faces_of change.now * two_searches bag.now.held) }

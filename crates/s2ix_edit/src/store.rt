@@ -33,6 +33,7 @@ use crate::history_error::HistoryError;
 use crate::join_error::JoinError;
 use crate::joining::{first_size, joined_change};
 use crate::record_error::RecordError;
+use crate::shared_table::SharedTable;
 use crate::steps::{
     apply_planned, apply_recorded, keep_newest, make_room, rebuild_for, shift_last,
 };
@@ -56,7 +57,7 @@ use std::marker::Model;
 pub struct Store {
     alloc: Global,
     bag: Bag,
-    table: StoreTable,
+    table: SharedTable,
     done: Vec<Change>,
     undone: Vec<Change>,
     faces_rebuilt: u8,
@@ -78,7 +79,7 @@ impl Model for Store {
 
     ghost invariant = { λ s.
         IsStore (record { bag = s.bag; done = s.done.items; undone = s.undone.items; faces_rebuilt = s.faces_rebuilt })
-        × (⟦<StoreTable as RangeTable>⟧.pairs s.table ≡ s.bag.held) };
+        × (s.table ≡ s.bag.held) };
 }
 
 impl Store {
@@ -97,7 +98,7 @@ impl Store {
         ensures state { IfOk result (λ store. store ≡ starting_at bag) }
         ensures history { IfOk result (λ store. history_of store ≡ alone bag.held) }
     {
-        let table = StoreTable::build(alloc, &bag)?;
+        let table = SharedTable::build(alloc, &bag)?;
         Ok(Store::starting(alloc, bag, table))
     }
 
@@ -119,7 +120,7 @@ impl Store {
             → first_refusal bag (take 1 (way_back (with_numbers changes.items))) ≡ None }
     {
         test_history(alloc, &bag, changes.as_slice())?;
-        let table = StoreTable::build(alloc, &bag)?;
+        let table = SharedTable::build(alloc, &bag)?;
         Ok(Store {
             alloc,
             bag,
@@ -131,8 +132,8 @@ impl Store {
     }
 
     // The store of a bag and its table, with nothing to undo or redo.
-    fn starting(alloc: Global, bag: Bag, table: StoreTable) -> Store
-        requires { ⟦<StoreTable as RangeTable>⟧.pairs table ≡ bag.held }
+    fn starting(alloc: Global, bag: Bag, table: SharedTable) -> Store
+        requires { table ≡ bag.held }
         ensures { result ≡ starting_at bag }
     {
         Store {
@@ -146,14 +147,14 @@ impl Store {
     }
 
     /// A store that starts from this one's collection, with the same limits and nothing to undo or redo. The two share pairs and table, and each
-    /// is edited by itself, on whatever thread. `OutOfMemory` if a growth is refused. It costs what the table's
-    /// [`copied`](s2ix_table::FacedTable::copied) does.
+    /// is edited by itself, on whatever thread. O(1). As long as another store has the table too, the next step costs O(p) more for p parts:
+    /// it makes a table of its own, which shares the parts that stay. `OutOfMemory` if they are shared too often.
     pub fn copied(&self) -> Result<Store, OutOfMemory>
         ensures state { IfOk result (λ store. store ≡ starting_at self.now.bag) }
         ensures history { IfOk result (λ store. history_of store ≡ alone self.now.bag.held) }
     {
         let bag = self.bag.copied(self.alloc)?;
-        let table = self.table.copied(self.alloc)?;
+        let table = self.table.copied()?;
         Ok(Store::starting(self.alloc, bag, table))
     }
 
@@ -483,7 +484,7 @@ impl Store {
         ensures pairs { ⟦<StoreTable as RangeTable>⟧.pairs result.now ≡ self.now.bag.held }
         ensures table { IsRangeTable self.now.bag.held (⟦<StoreTable as RangeTable>⟧.ranges result.now) }
     {
-        &self.table
+        self.table.table()
     }
 
     /// On how many faces, 0 to 6, the last accepted edit, list of rows, undo, redo, `record` or `apply` changed pairs. The table makes anew

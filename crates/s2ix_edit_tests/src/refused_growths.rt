@@ -21,13 +21,18 @@ fn store(rt: &impl Abort, alloc: Global, pairs: &str) -> Store {
     Store::from_bag(alloc, bag).expect(rt, SET_UP)
 }
 
-// The store of these pairs and one more on face 2.
-fn edited(rt: &impl Abort, alloc: Global, pairs: &str) -> Store {
-    let mut store = store(rt, alloc, pairs);
+// Adds a pair on face 2.
+fn add(rt: &impl Abort, store: &mut Store) {
     let pair = pair_of("5c:3").expect(rt, "a pair");
     store
         .edit(&Edit::Add { pair, copies: 1 })
         .expect(rt, SET_UP);
+}
+
+// The store of these pairs and one more on face 2.
+fn edited(rt: &impl Abort, alloc: Global, pairs: &str) -> Store {
+    let mut store = store(rt, alloc, pairs);
+    add(rt, &mut store);
     store
 }
 
@@ -80,6 +85,22 @@ fn a_copied_store_of_six_faces(rt: HostRuntime) {
     let store = store(&rt, rt.alloc(), FACES);
     let copy = store.copied().expect(&rt, SET_UP);
     assert!(rt; holds_pairs(store.bag(), FACES) && holds_pairs(copy.bag(), FACES));
+}
+
+#[test]
+fn an_edit_beside_a_copy(rt: HostRuntime) {
+    let mut store = store(&rt, rt.alloc(), FACES);
+    let copy = store.copied().expect(&rt, SET_UP);
+    add(&rt, &mut store);
+    assert!(rt; holds_pairs(store.bag(), FACES_AND_PAIR) && holds_pairs(copy.bag(), FACES));
+}
+
+#[test]
+fn an_edit_after_a_copy(rt: HostRuntime) {
+    let mut store = store(&rt, rt.alloc(), FACES);
+    drop(store.copied().expect(&rt, SET_UP));
+    add(&rt, &mut store);
+    assert!(rt; holds_pairs(store.bag(), FACES_AND_PAIR));
 }
 
 #[test]

@@ -233,6 +233,17 @@ fn refused_steps(rt: HostRuntime) {
     check_edit(&rt, &mut store, &growing(&rt), &BACK, &GROWN);
 }
 
+// A step makes a table of its own if a copy of the store shares the table: the copy's stays, also if the step gives up.
+#[test]
+fn refused_steps_beside_a_copy(rt: HostRuntime) {
+    let mut store = grown(&rt, rt.alloc());
+    let copy = store.copied().expect(&rt, SET_UP);
+    check_undo(&rt, &mut store, &GROWN, &BACK);
+    check_seen(&rt, &copy, &STARTED);
+    check_redo(&rt, &mut store, &BACK, &GROWN);
+    check_seen(&rt, &copy, &STARTED);
+}
+
 // Takes the growth back that is left of an undone one.
 fn check_revert(rt: &(impl Abort + Print), store: &mut Store) {
     let revert = Edit::Revert { number: 2 };
