@@ -55,8 +55,9 @@ static inline void s2ix_shared_unlock(s2ix_shared *shared) {
 }
 
 /* Brings a reader up to date. If the store hasn't been given back since the last time, this takes no lock, and a few nanoseconds; else it waits
-   for the store and copies it, as s2ix_copy does: some 25 to 250 microseconds at a million pairs. So it pays if threads ask more often than
-   others edit. If it is refused, the reader is closed until a later call. S2IX_CLOSED, S2IX_OUT_OF_MEMORY. */
+   for the store and copies it, as s2ix_copy does, in a few microseconds. The next edit then takes longer, by some 25 to 250 microseconds at a
+   million pairs. So it pays if threads ask more often than others edit. If it is refused, the reader is closed until a later call.
+   S2IX_CLOSED, S2IX_OUT_OF_MEMORY. */
 static inline uint32_t s2ix_reader_follow(s2ix_reader *reader, s2ix_shared *shared) {
     uint32_t status;
     if (reader->copy.is_open && reader->state == atomic_load(&shared->state))

@@ -115,8 +115,8 @@ class Reader {
 
 // A handle of a store, with copies for threads that ask it side by side. Edits take turns, and so does what is asked of the changes, since no
 // copy has these. Any other question goes to the thread's own copy if that shows what is held, and else to the store in turn. A thread gets a
-// copy once it has waited for others, or they for it, as long as that takes to make: so a thread that asks alone never has one. Move a handle
-// only while no call runs.
+// copy once it has waited for others, or they for it, as long as that delays the next edit: so a thread that asks alone never has one. Move a
+// handle only while no call runs.
 class Handle {
  public:
   Handle() noexcept = default;
@@ -359,7 +359,8 @@ class Handle {
     return readers_.load(std::memory_order_relaxed);
   }
 
-  // What a question that others wait for takes, roughly, and a copy: some 40 ns for each of its parts, of 300 pairs or so.
+  // What a question that others wait for takes, roughly, and what a copy costs the next edit: some 40 ns for each of the store's parts, of 300
+  // pairs or so.
   static constexpr std::chrono::nanoseconds time_of_question{1000};
   std::chrono::nanoseconds time_of_copy() const noexcept {
     std::size_t pairs = 0;

@@ -6,8 +6,8 @@
 //! beside it, for queries.
 //!
 //! Bag and table are kept in parts of some hundred pairs. A step makes anew only the parts that it changes, and copies a short list of all of
-//! them. A store drops no change by itself: when the number of changes that can be undone reaches the limit, edits are refused until some
-//! are undone, joined or forgotten.
+//! them. A copy of a store shares bag and table, until one of the two takes a step. A store drops no change by itself: when the number of
+//! changes that can be undone reaches the limit, edits are refused until some are undone, joined or forgotten.
 #![tactic(auto)]
 
 mod given;

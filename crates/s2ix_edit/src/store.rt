@@ -147,8 +147,8 @@ impl Store {
     }
 
     /// A store that starts from this one's collection, with the same limits and nothing to undo or redo. The two share pairs and table, and each
-    /// is edited by itself, on whatever thread. O(1). As long as another store has the table too, the next step costs O(p) more for p parts:
-    /// it makes a table of its own, which shares the parts that stay. `OutOfMemory` if they are shared too often.
+    /// is edited by itself, on whatever thread. It does not allocate. O(1); the first step of one of them then costs O(p) more for p parts,
+    /// since it makes a table of its own, which shares the parts that stay. `OutOfMemory` if pairs or table are shared too often.
     pub fn copied(&self) -> Result<Store, OutOfMemory>
         ensures state { IfOk result (λ store. store ≡ starting_at self.now.bag) }
         ensures history { IfOk result (λ store. history_of store ≡ alone self.now.bag.held) }
