@@ -1,16 +1,11 @@
--- The labels of pairs, gathered, sorted and then rid of repeats.
-use Rattle.std.proofs.Common.{◌≡◌, ◌↔◌, ◌⊎◌, inl, inr, List, [], ◌∷◌, Contains, nat_eq, sym, ap, subst}
-use Rattle.std.specs.Ordering.{nat_cmp, on}
-use Rattle.std.specs.List.Retain.{IsFiltered, DiffersFromLast}
-use Rattle.std.specs.List.Sorted.{IsSorted, IsPermutation}
-use Rattle.s2id_core.proofs.Sorted.{rising_by, same_members}
+-- The labels of pairs, gathered and then made to rise.
+use Rattle.std.proofs.Common.{◌≡◌, ◌↔◌, ◌⊎◌, inl, inr, List, [], ◌∷◌, Contains, sym, ap, subst}
 use Rattle.s2id_core.proofs.Lists.{cons_cases, in_tail, at_head, none_in_nil}
-use Rattle.s2ix_bag_pairs.proofs.Pairs.{same_label}
 use Rattle.s2ix_bag_pairs.specs.Collection.{Collection}
-use Rattle.s2ix_bag_pairs.specs.Label.{value_of}
 use Rattle.s2ix_bag_pairs.specs.declared.label.Label.{Label}
 use Rattle.s2ix_bag_pairs.specs.declared.pair.Held.{Held}
 use Rattle.s2ix_table_walk.specs.Meeting.{IsLabelList}
+use Rattle.s2ix_table_queries.specs.Rising.{HaveTheSame, Rise}
 
 -- one of the pairs has the label
 abbrev pub IsLabelOf : Collection → Label → Type 0
@@ -63,13 +58,10 @@ all_gathered all left labels is gathered label = (
       ],
 )
 
--- the labels of a meeting list, sorted and each once, are its label list
-pub label_list_from_sorted : (meeting : Collection) (xs ys zs : List Label) → ((label : Label) → Contains xs label ↔ IsLabelOf meeting label)
-    → IsPermutation xs ys → IsSorted (on value_of nat_cmp) ys → IsFiltered (DiffersFromLast (on value_of nat_eq)) [] ys zs
-    → IsLabelList meeting zs
-label_list_from_sorted meeting xs ys zs is permutes sorted filtered = record {
-  rises = rising_by value_of ys zs sorted filtered;
-  each = λ l.
-      let same = same_members value_of same_label xs ys zs permutes filtered l in
-      (λ c. (is l).0 (same.1 c), λ r. same.0 ((is l).1 r));
+-- the labels of a meeting list, as they rise, are its label list
+pub label_list_from_rising : (meeting : Collection) (xs ys : List Label) → ((label : Label) → Contains xs label ↔ IsLabelOf meeting label)
+    → Rise ys → HaveTheSame ys xs → IsLabelList meeting ys
+label_list_from_rising meeting xs ys is rise same = record {
+  rises = rise;
+  each = λ l. (λ c. (is l).0 ((same l).0 c), λ r. (same l).1 ((is l).1 r));
 }

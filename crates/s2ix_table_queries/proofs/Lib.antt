@@ -5,3 +5,4 @@ pub mod Building
 pub mod Numbers
 pub mod LeafByLeaf
 pub mod Linking
+pub mod Marking

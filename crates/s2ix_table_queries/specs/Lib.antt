@@ -14,3 +14,5 @@ pub mod Hints
 pub mod Leaf
 pub mod LeafContents
 pub mod ManyLeaves
+pub mod Marks
+pub mod Rising

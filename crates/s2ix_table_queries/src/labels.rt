@@ -15,6 +15,9 @@ use std::alloc::Global;
 // How many labels a list has room for from its first one on.
 const ROOM: usize = 16;
 
+// In a list of fewer labels than these each next one is looked for.
+const FEW: usize = 32;
+
 // Labels are spread over slots. For each slot, the place in a list at which a label of that slot was put last, in half a word: it is only
 // where to look first.
 type Places = [u32; 128];
@@ -22,7 +25,8 @@ type Places = [u32; 128];
 // The last place that fits there.
 const LAST_PLACE: usize = 0xffffffff;
 
-// The labels of the meeting list of a target's cells, in its order, few of them twice: the pairs of a label mostly come near one another.
+// The labels of the meeting list of a target's cells, in its order. If the cells lie near one another, few labels come twice: the pairs of a
+// label mostly lie near one another too.
 pub(crate) fn gather<T: RangeTable>(
     alloc: Global,
     table: &T,
@@ -37,21 +41,36 @@ pub(crate) fn gather<T: RangeTable>(
     let mut meeting = Meeting::of_cells(&mut meter, cells);
     let mut labels = Vec::new(alloc);
     let mut places = [0; 128];
+    let mut pairs = 0usize;
     while let Some(held) = meeting.advance() {
-        put(held.pair.label, &mut labels, &mut places)?;
+        pairs = pairs.wrapping_add(1);
+        let looks = is_worth_a_look(pairs, labels.len());
+        put(held.pair.label, looks, &mut labels, &mut places)?;
     }
     Ok(labels)
 }
 
-// Puts a label after those of a list, unless it is found at the place that its slot has.
+// Whether the next label is worth a look for it in a list that so many pairs have made. It is if the labels of two pairs in three were
+// found there: if fewer are, the processor can't foresee which, and waits for each pair in turn.
 #[inline(always)]
-fn put(label: Label, labels: &mut Vec<Label>, places: &mut Places) -> Result<(), OutOfMemory>
+fn is_worth_a_look(pairs: usize, labels: usize) -> bool {
+    labels < FEW || labels < pairs / 3
+}
+
+// Puts a label after those of a list, unless `looks` is true and it is found at the place that its slot has.
+#[inline(always)]
+fn put(
+    label: Label,
+    looks: bool,
+    labels: &mut Vec<Label>,
+    places: &mut Places,
+) -> Result<(), OutOfMemory>
     ensures { OnOk result ((other : LabelHeld)
         → Contains labels.new.items other ↔ (Contains labels.old.items other ⊎ (other ≡ label))) }
 {
     let slot = slot_of(label);
     let place = places[slot] as usize;
-    if place < labels.len() && labels[place] == label {
+    if looks && place < labels.len() && labels[place] == label {
         return Ok(());
     }
     if labels.is_empty() {

@@ -18,6 +18,7 @@ use crate::hint::LeafHint;
 use crate::labels::gather;
 use crate::leaf_contents::LeafContents;
 use crate::meter::Meter;
+use crate::rising::make_rising;
 use crate::stretch::Stretch;
 use crate::visit::Visit;
 use s2id_core::{CellId, LEAF_END, OutOfMemory};
@@ -30,9 +31,9 @@ use std::alloc::Global;
 /// The range table of a collection: the maximal spans of leaves over which the same pairs lie, in order, each with a
 /// chain of these pairs (S2's `S2CellIndex`, its ranges and its contents). The ranges cover all leaves, empty ones too.
 ///
-/// Queries are `visit`, `visit_counted`, `meeting` and `labels`, at the end. `window`, `stretch`, `read_near` and the calls on borders only
-/// make a walk quicker, and `look_for` and `contents_near` make `at_each` quicker: a user needs none of them. Of these a table has to write
-/// only `border`.
+/// Queries are `visit`, `visit_counted`, `meeting`, `labels` and `labels_of_cells`, at the end. `window`, `stretch`, `read_near` and the calls
+/// on borders only make a walk quicker, and `look_for` and `contents_near` make `at_each` quicker: a user needs none of them. Of these a table
+/// has to write only `border`.
 ///
 /// A table may keep its ranges in parts. A *border* is the place of the range at which a part begins; the borders rise, and several parts
 /// may have one border. A table that isn't kept in parts is one, with border 0.
@@ -235,8 +236,8 @@ pub trait RangeTable: Sized {
     }
 
     /// The labels of the target's meeting list, once each and rising (S2's `GetIntersectingLabels()`). `OutOfMemory` if a growth is
-    /// refused. It takes as long as `visit`, then O(m log m) for the m pairs met, and at worst O(m) memory however few labels it returns: it
-    /// drops most repeats as they come, and the others at the end.
+    /// refused. It takes as long as `visit`, then at worst O(m log m) for the m pairs met, and O(m) memory however few labels it returns: it
+    /// drops repeats as they come only while most pairs are such, and the others at the end.
     final fn labels(&self, alloc: Global, target: &CellUnion) -> Result<Vec<Label>, OutOfMemory>
         ensures labels { IfOk result (λ labels. IsLabelList (meeting_of target.now (pairs self.now)) labels.items) }
         ensures list { IfOk result (λ labels. labels.items ≡ label_list (meeting_of target.now (pairs self.now))) }
@@ -256,8 +257,7 @@ pub trait RangeTable: Sized {
         ensures list { IfOk result (λ labels. labels.items ≡ label_list (meeting_of cells.now (pairs self.now))) }
     {
         let mut labels = gather(alloc, self, cells)?;
-        labels.sort_unstable();
-        labels.dedup();
+        make_rising(alloc, &mut labels)?;
         Ok(labels)
     }
 }
