@@ -96,6 +96,8 @@ impl<T: RangeTable> Iterator for ChainIter<'_, T> {
 
     ghost remaining = { item_count (λ it. from_place (T.chain it.table.now) it.next) };
 
+    // It is always inlined: each pair waits for the place that the one before it gives, and in a call of its own that goes through memory.
+    #[inline(always)]
     fn next(&mut self) -> Option<Held> {
         let place = self.next?;
         let held = self.table.held_at(place);
@@ -105,6 +107,7 @@ impl<T: RangeTable> Iterator for ChainIter<'_, T> {
 }
 
 /// What lies over a range, innermost cell first, the labels of one cell rising (S2's `StartUnion()`). O(1), and O(1) for each pair.
+#[inline]
 pub fn contents<T: RangeTable>(table: &T, k: usize) -> ChainIter<'_, T>
     requires { k < length (T.ranges table.now) }
     ensures { AlwaysYields ⟦<ChainIter<'static, T> as Iterator>⟧.next_gives (λ held. held) result (range_at (T.ranges table.now) k).contents }
@@ -115,6 +118,7 @@ pub fn contents<T: RangeTable>(table: &T, k: usize) -> ChainIter<'_, T>
 
 /// What lies over a leaf, innermost cell first, the labels of one cell rising. O(log n) for n pairs, and O(1) for each
 /// pair that it gives.
+#[inline]
 pub fn chain_at<T: RangeTable>(table: &T, leaf: CellId) -> ChainIter<'_, T>
     requires { level_of leaf ≡ 30 }
     ensures { AlwaysYields ⟦<ChainIter<'static, T> as Iterator>⟧.next_gives (λ held. held) result (contents_at (raw_of leaf) (T.pairs table.now)) }
