@@ -19,7 +19,7 @@ use s2ix_table_queries::{BATCH, LeafContents, LeafHint, RangeTable};
 use s2ix_table_spans::{SpanTable, is_last_start, step_ahead};
 
 // The lists of more parts than this are out of the processor's cache.
-const MANY_PARTS: usize = 64;
+const MANY_PARTS: usize = 512;
 
 // How many neighbouring parts are a few.
 const NEAR_PARTS: usize = 8;
@@ -89,7 +89,12 @@ impl FacedTable {
         ensures range { IsFound (table_of (spans_of self.now.parts.items) result.part).ranges result.range (raw_of leaf) }
     {
         let hint = self.part_near(leaf, near);
-        let range = self.span(hint.part).find_near(leaf, hint.range);
+        let span = self.span(hint.part);
+        let range = if hint.range < span.range_count() {
+            span.find_near(leaf, hint.range)
+        } else {
+            self.found_in(hint.part, leaf)
+        };
         LeafHint { range, ..hint }
     }
 

@@ -5,7 +5,6 @@ use Rattle.std.proofs.Math.ListN.{get_or-append}
 use Rattle.std.proofs.Math.Seq.{get_or-append_seam}
 use Rattle.std.proofs.lemmas.List.{get_or_default, length-append}
 use Rattle.s2ix_table_walk.specs.Stretches.{IsSample}
-use Rattle.s2ix_table_spans.specs.Starts.{IsAmong}
 
 -- a sample of no start
 pub none_sampled : (count : ℕ) (starts : List ℕ) → IsSample count starts []
@@ -52,11 +51,3 @@ sample_rises starts sample is rises i j d lt within =
     let f = at_sample starts sample j is within in
     let r = rises (i * 16 + 15 + 1) (j * 16 + 15 + 1) 0 (omega arith) (omega arith) in
     omega arith
-
--- the starts before the first one of a sample
-pub before_sample : (starts sample : List ℕ) (leaf : ℕ) → IsSample (length starts - 2) (drop 1 starts) sample → 0 < length sample
-    → slice_index_or starts 0 0 ≤ leaf → leaf < slice_index_or sample 0 0 → IsAmong starts leaf 0 16
-before_sample starts sample leaf is some by before =
-    let within = is.within 0 some in
-    let e = at_sample starts sample 0 is some in
-    record { some = omega arith; within = omega arith; by = by; after = λ less. omega arith }

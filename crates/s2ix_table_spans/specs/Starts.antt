@@ -23,6 +23,13 @@ pub record IsAmong (starts : List ℕ) (leaf first size : ℕ) : Type 0 where
   pub by : slice_index_or starts first 0 ≤ leaf
   pub after : first + size < length starts → leaf < slice_index_or starts (first + size) 0
 
+-- of the starts at the places from `from` on up to `end`, those up to this place are by the leaf, and the next one is after it
+pub record IsFirstAfter (starts : List ℕ) (leaf from end k : ℕ) : Type 0 where
+  pub from_on : from ≤ k
+  pub to_end : k ≤ end
+  pub by : from < k → slice_index_or starts (k - 1) 0 ≤ leaf
+  pub after : k < end → leaf < slice_index_or starts k 0
+
 -- what stands at the ends of lists of starts and of places beside them: the first place and the last one, and the last start
 pub record AreEnds (starts firsts : List ℕ) (first_place last_place last_start : ℕ) : Type 0 where
   pub first : slice_index_or firsts 0 0 ≡ first_place

@@ -1,29 +1,49 @@
 //! Places of ranges in a table.
 ghost use Rattle.std.specs.Prelude.{◌≡◌, ◌↔◌, ℕ, ◌-◌, ◌%◌, ◌<◌, ◌≤◌, IsTrue, drop, length, slice_index_or, AllPairs};
 ghost use Rattle.s2ix_table_walk.specs.Stretches.{IsSample};
-ghost use Rattle.s2ix_table_spans.specs.Starts.{IsAmong, IsLastStart};
+ghost use Rattle.s2ix_table_spans.specs.Starts.{IsAmong, IsFirstAfter, IsLastStart};
 
 use s2ix_table_walk::{SAMPLE_STEP, Window};
 
-// Of more starts than this, most that a search reads are out of the processor's near cache.
+// Of more starts than this, so many lie in the sample that a search of it is quicker than counting.
 const FAR: usize = 4096;
 
-// The last of rising starts that is not after a leaf. O(log n). It is not inlined, so that a caller's iterator is.
+// The last of rising starts that is not after a leaf. Of few starts it counts those of the sample that are not after it, and then those of
+// one group: that takes fewer steps that wait for one another than halving. O(log n). It is not inlined, so that a caller's iterator is.
 #[inline(never)]
 pub(crate) fn last_start(starts: &[u64], sample: &[u64], leaf: u64) -> usize
     requires some { 0 < length starts.now }
     requires rises { AllPairs (λ a b. a < b) starts.now }
-    requires odd { (k : ℕ) → k < length starts.now → slice_index_or starts.now k 0 % 2 ≡ 1 }
     requires first { slice_index_or starts.now 0 0 ≤ leaf }
     requires sample { IsSample (length starts.now - 2) (drop 1 starts.now) sample.now }
     ensures { IsLastStart starts.now leaf result }
 {
     if starts.len() > FAR {
-        last_of_sampled(starts, sample, leaf)
-    } else {
-        let size = starts.len();
-        last_among(starts, leaf, Window { first: 0, size })
+        return last_of_sampled(starts, sample, leaf);
     }
+    let reached = first_after(sample, leaf, 0, sample.len());
+    let group = group_of(starts, sample, leaf, reached);
+    first_after(starts, leaf, group.first, group.first + group.size) - 1
+}
+
+// The first of rising starts that is after a leaf, if it is among those at the places from `from` on up to `end`, else `end`. It counts those
+// that are not after it: no branch depends on a start, and none is read later than another. O(n) for n of these.
+#[inline(always)]
+fn first_after(starts: &[u64], leaf: u64, from: usize, end: usize) -> usize
+    requires rises { AllPairs (λ a b. a < b) starts.now }
+    requires order { from ≤ end }
+    requires within { end ≤ length starts.now }
+    ensures { IsFirstAfter starts.now leaf from end result }
+{
+    let mut after = from;
+    let mut place = from;
+    while place < end {
+        if starts[place] <= leaf {
+            after += 1;
+        }
+        place += 1;
+    }
+    after
 }
 
 // The last of rising starts that is not after a leaf, as `last_start` gives it. It reads the sample first: that takes fewer lines of the
@@ -40,7 +60,7 @@ pub(crate) fn last_of_sampled(starts: &[u64], sample: &[u64], leaf: u64) -> usiz
     far_last(starts, leaf, among)
 }
 
-// The starts among which it is: all if there is no sample, else a group of 16; the last group may have one more, or fewer.
+// The starts among which it is, by a search of the sample.
 #[inline(always)]
 fn sampled(starts: &[u64], sample: &[u64], leaf: u64) -> Window
     requires some { 0 < length starts.now }
@@ -49,21 +69,29 @@ fn sampled(starts: &[u64], sample: &[u64], leaf: u64) -> Window
     requires sample { IsSample (length starts.now - 2) (drop 1 starts.now) sample.now }
     ensures { IsAmong starts.now leaf result.first result.size }
 {
-    if sample.is_empty() {
-        let size = starts.len();
-        return Window { first: 0, size };
-    }
-    if leaf < sample[0] {
-        let size = SAMPLE_STEP;
-        return Window { first: 0, size };
+    if sample.is_empty() || leaf < sample[0] {
+        return group_of(starts, sample, leaf, 0);
     }
     let all = Window {
         first: 0,
         size: sample.len(),
     };
-    let group = far_last(sample, leaf, all);
-    let first = SAMPLE_STEP * (group + 1);
-    if group + 1 < sample.len() {
+    let last = far_last(sample, leaf, all);
+    group_of(starts, sample, leaf, last + 1)
+}
+
+// The starts among which it is, by how many of the sample are not after the leaf: all if there is no sample, else a group of 16; the last
+// group may have one more, or fewer.
+#[inline(always)]
+fn group_of(starts: &[u64], sample: &[u64], leaf: u64, reached: usize) -> Window
+    requires some { 0 < length starts.now }
+    requires first { slice_index_or starts.now 0 0 ≤ leaf }
+    requires sample { IsSample (length starts.now - 2) (drop 1 starts.now) sample.now }
+    requires reached { IsFirstAfter sample.now leaf 0 (length sample.now) reached }
+    ensures { IsAmong starts.now leaf result.first result.size }
+{
+    let first = SAMPLE_STEP * reached;
+    if reached < sample.len() {
         let size = SAMPLE_STEP;
         Window { first, size }
     } else {

@@ -1,4 +1,4 @@
-//! A short list of starts, for a search that waits for memory.
+//! A short list of starts, which a search reads first.
 ghost use Rattle.std.specs.Prelude.{◌-◌, length, drop, IfOk};
 ghost use Rattle.s2ix_table_walk.specs.Stretches.{IsSample};
 

@@ -303,7 +303,7 @@ impl SpanTable {
     }
 
     /// The range that has a leaf of the span, as [`find`](SpanTable::find) gives it. It is quicker than `find` if the table's lists are out
-    /// of the processor's cache, and slower if they are in it: it first reads the short list of every 16th start. O(log n).
+    /// of the processor's cache, and slower if they are in it: it halves where `find` counts. O(log n).
     #[inline]
     pub fn find_far(&self, leaf: CellId) -> usize
         requires begins { self.now.from ≤ raw_of leaf }

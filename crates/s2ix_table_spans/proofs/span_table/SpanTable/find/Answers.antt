@@ -1,10 +1,10 @@
-use Rattle.std.proofs.Common.{◌≡◌, ℕ, ◌-◌, ◌%◌, ◌<◌, ◌≤◌, List, AllPairs, drop, length, slice_index_or, sym, arith, subst}
+use Rattle.std.proofs.Common.{◌≡◌, ℕ, ◌-◌, ◌<◌, ◌≤◌, List, AllPairs, drop, length, slice_index_or, sym, arith, subst}
 use Rattle.s2id_core.specs.CellId.{raw_of}
 use Rattle.s2ix_table_walk.specs.Table.{IsFound}
 use Rattle.s2ix_table_walk.specs.Stretches.{IsSample}
 use Rattle.s2ix_table_spans.specs.SpanTable.{SpanRanges}
 use Rattle.s2ix_table_spans.specs.Starts.{IsLastStart}
-use Rattle.s2ix_table_spans.proofs.Windows.{starts_rise, starts_odd, first_start, found_start}
+use Rattle.s2ix_table_spans.proofs.Windows.{starts_rise, first_start, found_start}
 use Rattle.s2ix_table_spans.proofs.span_table.SpanTable.find.Goals as goal
 
 pub last_start-requires-clause-some : goal.last_start-requires-clause-some
@@ -18,12 +18,6 @@ last_start-requires-clause-rises c =
     let t = c.self.inside in
     let same : c.as_slice.result.now ≡ t.starts.items = c.as_slice.ensures.value in
     subst (AllPairs (λ a b. a < b)) (sym same) (starts_rise t.held t.from t.to t.starts.items c.self.invariant.table)
-
-pub last_start-requires-clause-odd : goal.last_start-requires-clause-odd
-last_start-requires-clause-odd c =
-    let t = c.self.inside in
-    let same : c.as_slice.result.now ≡ t.starts.items = c.as_slice.ensures.value in
-    subst (λ (xs : List ℕ). (k : ℕ) → k < length xs → slice_index_or xs k 0 % 2 ≡ 1) (sym same) (starts_odd t.held t.from t.to t.starts.items c.self.invariant.table)
 
 pub last_start-requires-clause-first : goal.last_start-requires-clause-first
 last_start-requires-clause-first c =

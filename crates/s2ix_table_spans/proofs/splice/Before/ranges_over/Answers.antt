@@ -3,7 +3,7 @@ use Rattle.s2ix_table_spans.specs.Starts.{IsLastStart}
 use Rattle.s2id_core.specs.CellId.{raw_of}
 use Rattle.s2id_core.proofs.Nested.{span}
 use Rattle.s2ix_table_spans.proofs.Bases.{cut_within, cut_to_end, cell_in_span}
-use Rattle.s2ix_table_spans.proofs.Windows.{starts_odd, starts_rise, first_start}
+use Rattle.s2ix_table_spans.proofs.Windows.{starts_rise, first_start}
 use Rattle.s2ix_table_spans.proofs.splice.Before.ranges_over.Goals as goal
 
 pub last_start-first-requires-clause-rises : goal.last_start-first-requires-clause-rises
@@ -43,11 +43,3 @@ returns-else-end-self c =
     cut_to_end t.held.now c.args.cell t.from t.to t.starts.now c.last_start-first.result c.requires.nodes.table c.requires.nodes.within
     c.requires.holds (subst (λ n. IsLastStart t.starts.now n c.last_start-first.result) begin c.last_start-first.ensures)
     (let le = c.if-end-self.false in omega arith)
-
-pub last_start-first-requires-clause-odd : goal.last_start-first-requires-clause-odd
-last_start-first-requires-clause-odd c =
-    starts_odd c.args.self.held.now c.args.self.from c.args.self.to c.args.self.starts.now c.requires.nodes.table
-
-pub last_start-last-requires-clause-odd : goal.last_start-last-requires-clause-odd
-last_start-last-requires-clause-odd c =
-    starts_odd c.args.self.held.now c.args.self.from c.args.self.to c.args.self.starts.now c.requires.nodes.table
