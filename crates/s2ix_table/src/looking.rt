@@ -56,6 +56,20 @@ impl FacedTable {
         }
     }
 
+    // The same, quicker if `near` is the place of that range or of one soon before it. Any number is accepted.
+    #[inline(always)]
+    fn found_from(&self, part: usize, leaf: CellId, near: usize) -> usize
+        requires { IsLastStart self.now.starts.items (raw_of leaf) part }
+        ensures { IsFound (table_of (spans_of self.now.parts.items) part).ranges result (raw_of leaf) }
+    {
+        let span = self.span(part);
+        if near < span.range_count() {
+            span.find_near(leaf, near)
+        } else {
+            self.found_in(part, leaf)
+        }
+    }
+
     // The place of the innermost pair over a leaf, by the part that has it and the range in that part's table.
     #[inline]
     pub(crate) fn first_found(&self, leaf: CellId, part: usize, found: usize) -> Option<FacedPlace>
@@ -89,12 +103,7 @@ impl FacedTable {
         ensures range { IsFound (table_of (spans_of self.now.parts.items) result.part).ranges result.range (raw_of leaf) }
     {
         let hint = self.part_near(leaf, near);
-        let span = self.span(hint.part);
-        let range = if hint.range < span.range_count() {
-            span.find_near(leaf, hint.range)
-        } else {
-            self.found_in(hint.part, leaf)
-        };
+        let range = self.found_from(hint.part, leaf, hint.range);
         LeafHint { range, ..hint }
     }
 
