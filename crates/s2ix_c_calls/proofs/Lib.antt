@@ -1,6 +1,7 @@
 mod AddressSteps
 mod Dropped
 mod Answered
+mod Blocks
 mod Paging
 mod Targets
 mod Begun

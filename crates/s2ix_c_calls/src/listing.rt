@@ -8,18 +8,36 @@ ghost use Rattle.s2ix_c_calls.specs.Status.{done};
 
 use crate::rows::{Row, row_for};
 use crate::status::{DONE, NO_LABEL, NO_ROOM};
+use s2ix_bag_changes::Bag;
+use s2ix_bag_lists::FlatHeld;
 use s2ix_bag_pairs::Label;
 use s2ix_edit::Store;
-use s2ix_table::{BagReader, PairReader};
 
-// Writes the pairs from a place on: as many as the buffer has room for. O(p + k) for k of them in p parts, each of which costs a search.
-fn write_page<B: PairReader>(reader: &mut B, from: usize, out: &mut [Row]) -> usize
-    ensures { IsPut (map row_of (take (length out.old) (drop from (B.shown reader.old)))) done result out.old out.new }
+// Writes some pairs as rows to the front of `out`, which has room for them.
+#[inline]
+fn write_rows(held: &[FlatHeld], out: &mut [Row])
+    requires { length held.now ≤ length out.old }
+    ensures front { take (length held.now) out.new ≡ map row_of held.now }
+    ensures after { drop (length held.now) out.new ≡ drop (length held.now) out.old }
 {
-    let rest = reader.len().saturating_sub(from);
+    for (place, flat) in held.iter().enumerate() {
+        out[place] = row_for(flat.held());
+    }
+}
+
+// Writes the pairs from a place on: as many as the buffer has room for. O(p log q + k) for k of them in p parts of a bag that has q.
+fn write_page(bag: &Bag, from: usize, out: &mut [Row]) -> usize
+    ensures { IsPut (map row_of (take (length out.old) (drop from bag.now.held))) done result out.old out.new }
+{
+    let rest = bag.len().saturating_sub(from);
     let count = rest.min(out.len());
-    for place in 0..count {
-        out[place] = row_for(reader.read(from + place));
+    let mut put = 0;
+    while put < count {
+        let (before, part) = bag.part_at(from + put);
+        let part = part.as_slice();
+        let block = &part[from + put - before..part.len().min(from + count - before)];
+        write_rows(block, &mut out[put..]);
+        put += block.len();
     }
     count
 }
@@ -28,7 +46,7 @@ fn write_page<B: PairReader>(reader: &mut B, from: usize, out: &mut [Row]) -> us
 pub fn pairs(store: &Store, from: usize, out: &mut [Row], number: &mut usize) -> u32
     ensures { PutsPage from store.now result number.new out.old out.new }
 {
-    *number = write_page(&mut BagReader::new(store.bag()), from, out);
+    *number = write_page(store.bag(), from, out);
     DONE
 }
 

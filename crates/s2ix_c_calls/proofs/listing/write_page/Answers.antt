@@ -1,24 +1,38 @@
--- The page has one row more.
-use Rattle.std.proofs.Common.{rules, ◌≡◌, ◌<◌, ◌+◌, ◌∙◌, Some, drop, length, slice_get, slice_set, subst}
-use Rattle.std.proofs.lemmas.Grind.{drop_more_same}
-use Rattle.std.proofs.lemmas.List.{drop-set-lt}
+-- The page has one block more.
+use Rattle.std.proofs.Common.{◌≡◌, ◌≤◌, ◌<◌, ◌+◌, ◌-◌, ◌∙◌, length, map, take, drop, ap, refl, sym, subst, arith, length-drop}
+use Rattle.std.proofs.lemmas.List.{length-take-le}
+use Rattle.s2ix_bag_lists.specs.Parts.{IsPartAt}
 use Rattle.s2ix_bag_pairs.specs.Collection.{Collection}
 use Rattle.s2ix_c_calls.specs.Lists.{row_of}
-use Rattle.s2ix_c_calls.proofs.Paging.{put_next}
+use Rattle.s2ix_c_calls.proofs.Blocks.{after_more, block_after, block_front, block_long, page_more}
 use Rattle.s2ix_c_calls.proofs.listing.write_page.Goals as goal
 
-pub loop-place-preserved : goal.loop-place-preserved
-loop-place-preserved g c =
-    let less : c.loop-place.place < length c.loop-place.out = search rules in
-    let after : drop (c.loop-place.place + 1) (slice_set c.loop-place.out c.loop-place.place c.row_for.result)
-    ≡ drop (c.loop-place.place + 1) c.args.out.now = search (rules, drop-set-lt, drop_more_same) in
-    let long : length (slice_set c.loop-place.out c.loop-place.place c.row_for.result) ≡ length c.args.out.now = search rules in
-    let was = c.loop-place.invariant in
-    let read : slice_get (g.B.PairReader.shown c.args.reader.now) (c.args.from + c.loop-place.place) ≡ Some c.read.result =
-    subst (λ (hs : Collection). slice_get hs (c.args.from + c.loop-place.place) ≡ Some c.read.result) was.3 c.read.ensures.held in (
-      put_next row_of c.loop-place.out (g.B.PairReader.shown c.args.reader.now) c.args.from c.loop-place.place c.read.result
-          c.row_for.result less read c.row_for.ensures was.0,
-      after,
-      long,
-      c.read.ensures.same ∙ was.3,
+pub loop-put-preserved : goal.loop-put-preserved
+loop-put-preserved c =
+    let l = c.loop-put in
+    let hs = c.args.bag.now.held in
+    let before = c.part_at-before.result.0 in
+    let part = c.as_slice-part.result.now in
+    let at = subst (λ (own : Collection). IsPartAt (c.args.from + l.put) hs before own) (sym c.as_slice-part.ensures) c.part_at-before.ensures in
+    let begins = at.begins in
+    let ends = at.ends in
+    let a = c.args.from + l.put - before in
+    let end = c.min.result in
+    let block = take (end - a) (drop a part) in
+    let low = c.loop-put-test.true in
+    let within : end ≤ length part = omega (arith, c.min.ensures) in
+    let starts : c.args.from + l.put ≤ before + end = omega (arith, c.min.ensures) in
+    let fits : before + end ≤ c.args.from + c.min-count.result = omega (arith, c.min.ensures) in
+    let n : length block ≡ end - a = length-take-le (end - a) (drop a part) (omega (arith, length-drop a part)) in
+    let room : length block ≤ length l.out - l.put = omega (arith, c.min-count.ensures, l.auto.out) in
+    let here : l.put ≤ length l.out = omega (arith, c.min-count.ensures, l.auto.out) in
+    let was = l.invariant in
+    let w = c.write_rows in (
+      omega arith,
+      block_front l.out w.new.out _ l.put (length block) here w.auto.out room refl
+          ∙ page_more row_of hs part _ _ c.args.from l.put before end begins starts within at.part was.1 w.ensures.front
+          ∙ ap (λ k. map row_of (take (l.put + k) (drop c.args.from hs))) (sym n),
+      block_after l.out w.new.out _ l.put (length block) here w.auto.out room refl w.ensures.after
+          ∙ after_more l.out c.args.out.now l.put (length block) was.2,
+      block_long l.out w.new.out _ l.put (length block) here w.auto.out room refl ∙ was.3,
     )
