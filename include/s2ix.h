@@ -32,9 +32,9 @@
    - in s2ix_apply, whatever is wrong after the journal's first line.
 
    A call wants no memory if it is given no rows, entries or cells, a label that is not held, equal bounds, or a page with no room. Nor do
-   s2ix_meet and s2ix_meet_from if they are given at most 128 cells that follow one another: the cells rise, with or without gaps, and none
-   lies within another, as in each valid S2CellUnion. s2ix_meet_each wants none for such a target. The exception is s2ix_line, which may want
-   memory for any query.
+   s2ix_meet and s2ix_meet_from if they are given at most 1,024 cells that follow one another: the cells rise, with or without gaps, and
+   none lies within another, as in each valid S2CellUnion. s2ix_meet_each wants none for such a target. From 129 such cells on these calls,
+   s2ix_labels and s2ix_labels_each take 9 KB of the stack. The exception is s2ix_line, which may want memory for any query.
 
    You must ensure this, since no call can check it:
 
@@ -269,7 +269,7 @@ uint32_t s2ix_labels_at_each(s2ix_handle *handle, const uint64_t *leaves, size_t
 
 /* The pairs that share a leaf with some of the cells, which come in any order, repeated or not. Each pair comes once, by first shared leaf,
    then falling level, then rising label. O(k + r + t log n) for k pairs over r ranges and t cells, and O(t log t) to sort them unless they
-   rise. Only the cells want memory, and none if they are at most 128 and follow one another. S2IX_CLOSED, S2IX_NO_CELL, S2IX_NO_ROOM,
+   rise. Only the cells want memory, and none if they are at most 1,024 and follow one another. S2IX_CLOSED, S2IX_NO_CELL, S2IX_NO_ROOM,
    S2IX_OUT_OF_MEMORY. */
 uint32_t s2ix_meet(s2ix_handle *handle, const uint64_t *cells, size_t len, s2ix_row *rows, size_t room, size_t *number);
 

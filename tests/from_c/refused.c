@@ -23,6 +23,9 @@ enum { ROOM = 4096 };
 static const uint64_t first = 0x0400000000000000, second = 0x0c00000000000000, face = 0x1000000000000000, leaf = 0x0400000000000001;
 static const uint64_t two[] = {0x0c00000000000000, 0x0400000000000000}, wrong[] = {0x0400000000000000, 6};
 static const uint64_t following[] = {0x0400000000000000, 0x0c00000000000000};
+/* As many leaves as lists on the stack have room for at most, and one more. */
+enum { MANY = 1024 };
+static uint64_t rising[MANY + 1];
 static const char dump[] = "s2ix 2\n04 7 1\n0400000000000001 8 2\n0c 7 1\nend 3 4\n";
 static const char add_line[] = "add 1 1", meet_line[] = "meet 1";
 /* The first leads on from that dump, the second to it. */
@@ -218,6 +221,8 @@ CALL(contents) { return (void)other, s2ix_contents(handle, 1, 0, ROWS, &told->nu
 CALL(meets_leaf) { return (void)other, s2ix_meet(handle, &leaf, 1, ROWS, &told->number); }
 CALL(meets_following) { return (void)other, s2ix_meet(handle, following, 2, ROWS, &told->number); }
 CALL(meets_following_from) { return (void)other, s2ix_meet_from(handle, following, 2, 1, ROWS, &told->number); }
+CALL(meets_many) { return (void)other, s2ix_meet(handle, rising, MANY, ROWS, &told->number); }
+CALL(meets_more) { return (void)other, s2ix_meet(handle, rising, MANY + 1, ROWS, &told->number); }
 CALL(meets_each_following) {
     static const size_t all[] = {0, 2, 2};
     return (void)other, s2ix_meet_each(handle, following, 2, all, 3, ends, 2, ROWS, &told->number);
@@ -385,6 +390,8 @@ static const struct {
     {"meet of cells that follow one another", meets_following, false},
     {"meet_from of cells that follow one another", meets_following_from, false},
     {"meet_each of cells that follow one another", meets_each_following, false},
+    {"meet of 1,024 leaves", meets_many, false},
+    {"meet of 1,025 leaves", meets_more, true},
     {"ranges", ranges, false},
     {"at", at, false},
     {"at_each", at_each, false},
@@ -512,6 +519,7 @@ static long growths_of(call *call, bool is_empty) {
 
 int main(void) {
     int refused = 0;
+    for (size_t k = 0; k < MANY + 1; k++) rising[k] = leaf + 2 * k;
     expect("meet", 0, "pairs that are met want memory", growths_of(meets, false) == growths_of(meets, true));
     expect("meet_from", 0, "pairs that are met want memory", growths_of(meets_from, false) == growths_of(meets_from, true));
     for (size_t k = 0; k < sizeof calls / sizeof *calls; k++) {

@@ -31,7 +31,7 @@ pub extern "C" fn s2ix_at(
 }
 
 /// The pairs that share a leaf with a union of cells, given in any order and repeated or not: each once, by first shared leaf, then
-/// falling level, then rising label. At most 128 cells that follow one another want no memory.
+/// falling level, then rising label. At most 1,024 cells that follow one another want no memory.
 #[unsafe(no_mangle)]
 pub extern "C" fn s2ix_meet(
     alloc: Global,

@@ -1,5 +1,5 @@
 -- What numbers ask for.
-use Rattle.std.specs.Prelude.{◌≡◌, ◌≢◌, ◌⊎◌, ℕ, ◌≤◌, length, List, [], ◌∷◌, map, take, slice_get, All, Contains, Option, Some, None, Result, Ok, Err, IsOk}
+use Rattle.std.specs.Prelude.{◌≡◌, ◌⊎◌, ℕ, ◌≤◌, length, List, [], ◌∷◌, map, take, slice_get, All, Contains, Option, Some, None, Result, Ok, Err, IsOk}
 use Rattle.s2id_core.specs.declared.cell_id.CellId.{CellId}
 use Rattle.s2id_core.specs.Cell.{IsCellNumber}
 use Rattle.s2id_core.specs.CellId.{level_of, raw_of}
@@ -23,17 +23,16 @@ AreCells ids cells = map raw_of cells ≡ ids
 abbrev pub IsOneLeaf : List ℕ → Type 0
 IsOneLeaf ids = (leaf : CellId) × (level_of leaf ≡ 30) × AreCells ids (leaf ∷ [])
 
--- the numbers are those of cells that follow one another along the curve, none within another: at least one and at most 128
+-- the numbers are those of cells that follow one another along the curve, none within another: at most 1,024, perhaps none
 pub record AreFollowing (ids : List ℕ) : Type 0 where
   pub cells : List CellId
   pub are : AreCells ids cells
   pub follow : FollowOneAnother cells
-  pub some : ids ≢ []
-  pub at_most : length ids ≤ 128
+  pub at_most : length ids ≤ 1024
 
--- there are numbers, but not those of at most 128 cells that follow one another: so if each is a cell's, a union is made
+-- the numbers are not those of at most 1,024 cells that follow one another: so if each is a cell's, a union is made
 abbrev pub NeedUnion : List ℕ → Type 0
-NeedUnion ids = (ids ≢ []) × (AreFollowing ids → ⊥)
+NeedUnion ids = AreFollowing ids → ⊥
 
 -- cells have the leaves of those with these numbers
 abbrev pub AreTarget : List ℕ → List CellId → Type 0

@@ -2,7 +2,6 @@ pub mod Address
 pub mod Handle
 pub mod InBuffer
 pub mod Status
-pub mod Targets
 pub mod Stores
 pub mod Asked
 pub mod Lists

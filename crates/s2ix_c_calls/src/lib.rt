@@ -29,6 +29,7 @@ mod listing;
 mod meetings;
 mod no_answer;
 mod queries;
+mod question;
 mod ranges;
 mod recording;
 mod removing;
@@ -37,7 +38,6 @@ mod resuming;
 mod rows;
 pub mod status;
 mod steps;
-mod target;
 mod texts;
 mod unions;
 

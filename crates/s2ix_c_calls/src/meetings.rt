@@ -7,11 +7,14 @@ ghost use Rattle.s2ix_table_walk.specs.Meetings.{left_in};
 ghost use Rattle.s2ix_c_calls.specs.Lists.{IsFilled, IsPut, row_of};
 ghost use Rattle.s2ix_c_calls.specs.Status.{done};
 
-use crate::rows::{Row, row_for};
-use crate::status::{DONE, NO_ROOM};
+use crate::question::Question;
+use crate::rows::{Row, put_labels, row_for};
+use crate::status::{DONE, NO_ROOM, OUT_OF_MEMORY};
 use s2id_core::CellId;
+use s2ix_edit::Store;
 use s2ix_table_queries::{Meter, RangeTable};
 use s2ix_table_walk::{Meeting, Reader};
+use std::alloc::Global;
 
 // (the three loops are taken into their callers, so that the compiler keeps where a walk stands in registers)
 
@@ -62,12 +65,7 @@ fn count_met<R: Reader>(meeting: &mut Meeting<'_, R>) -> usize
 }
 
 // Puts the pairs that the cells of a target meet to the front of `out` as far as it has room; `number` is how many there are. It does not allocate.
-pub(crate) fn put_met<T: RangeTable>(
-    table: &T,
-    cells: &[CellId],
-    out: &mut [Row],
-    number: &mut usize,
-) -> u32
+fn put_met<T: RangeTable>(table: &T, cells: &[CellId], out: &mut [Row], number: &mut usize) -> u32
     requires { FollowOneAnother cells.now }
     ensures { IsFilled (map row_of (meeting_of cells.now (T.pairs table.now))) result number.new out.old out.new }
 {
@@ -88,12 +86,7 @@ pub(crate) fn put_met<T: RangeTable>(
 
 // Puts the pairs that the cells of a target meet, from a place on, counted from 0, to the front of `out`: as many as it has room for. The answer is how
 // many are put. It does not allocate.
-pub(crate) fn put_met_from<T: RangeTable>(
-    table: &T,
-    cells: &[CellId],
-    from: usize,
-    out: &mut [Row],
-) -> usize
+fn put_met_from<T: RangeTable>(table: &T, cells: &[CellId], from: usize, out: &mut [Row]) -> usize
     requires { FollowOneAnother cells.now }
     ensures { IsPut (map row_of (take (length out.old) (drop from (meeting_of cells.now (T.pairs table.now))))) done result out.old out.new }
 {
@@ -101,4 +94,92 @@ pub(crate) fn put_met_from<T: RangeTable>(
     let mut meeting = Meeting::of_cells(&mut meter, cells);
     pass_met(&mut meeting, from);
     write_met(&mut meeting, out)
+}
+
+/// The pairs that meet a target.
+#[derive(Clone, Copy)]
+pub(crate) struct Met;
+
+impl Question for Met {
+    ghost use Rattle.std.specs.Prelude.{map};
+    ghost use Rattle.s2ix_table_walk.specs.Meeting.{meeting_of};
+    ghost use Rattle.s2ix_c_calls.specs.Lists.{IsFilled, row_of};
+
+    type Item = Row;
+
+    ghost answers = { λ _ cells held status number old new. IsFilled (map row_of (meeting_of cells held)) status number old new };
+
+    fn answer(
+        &self,
+        alloc: Global,
+        store: &Store,
+        cells: &[CellId],
+        out: &mut [Row],
+        number: &mut usize,
+    ) -> u32 {
+        put_met(store.table(), cells, out, number)
+    }
+}
+
+/// The pairs that meet a target, from a place on, counted from 0: as many as there is room for.
+#[derive(Clone, Copy)]
+pub(crate) struct MetFrom {
+    pub(crate) from: usize,
+}
+
+impl Question for MetFrom {
+    ghost use Rattle.std.specs.Prelude.{◌≡◌, length, map, take, drop};
+    ghost use Rattle.s2ix_table_walk.specs.Meeting.{meeting_of};
+    ghost use Rattle.s2ix_c_calls.specs.Lists.{IsPut, row_of};
+    ghost use Rattle.s2ix_c_calls.specs.Status.{done};
+
+    type Item = Row;
+
+    ghost answers = { λ page cells held status number old new.
+        (status ≡ done) × IsPut (map row_of (take (length old) (drop page.from (meeting_of cells held)))) done number old new };
+
+    fn answer(
+        &self,
+        alloc: Global,
+        store: &Store,
+        cells: &[CellId],
+        out: &mut [Row],
+        number: &mut usize,
+    ) -> u32 {
+        *number = put_met_from(store.table(), cells, self.from, out);
+        DONE
+    }
+}
+
+/// The labels of the pairs that meet a target.
+#[derive(Clone, Copy)]
+pub(crate) struct LabelsMet;
+
+impl Question for LabelsMet {
+    ghost use Rattle.std.specs.Prelude.{◌⊎◌, map};
+    ghost use Rattle.s2ix_bag_pairs.specs.Label.{value_of};
+    ghost use Rattle.s2ix_table_walk.specs.LabelList.{label_list};
+    ghost use Rattle.s2ix_table_walk.specs.Meeting.{meeting_of};
+    ghost use Rattle.s2ix_c_calls.specs.Lists.{IsFilled, IsRefused};
+    ghost use Rattle.s2ix_c_calls.specs.Status.{out_of_memory};
+
+    type Item = u32;
+
+    ghost answers = { λ _ cells held status number old new.
+        IsFilled (map value_of (label_list (meeting_of cells held))) status number old new ⊎ IsRefused out_of_memory status number old new };
+
+    fn answer(
+        &self,
+        alloc: Global,
+        store: &Store,
+        cells: &[CellId],
+        out: &mut [u32],
+        number: &mut usize,
+    ) -> u32 {
+        let Ok(list) = store.table().labels_of_cells(alloc, cells) else {
+            *number = 0;
+            return OUT_OF_MEMORY;
+        };
+        put_labels(list.as_slice(), out, number)
+    }
 }

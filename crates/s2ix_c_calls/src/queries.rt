@@ -9,10 +9,10 @@ ghost use Rattle.s2ix_c_calls.specs.Lists.{Fills, FillsOf, labels_met, ListsOf, 
 ghost use Rattle.s2ix_c_calls.specs.Status.{no_room, out_of_memory};
 
 use crate::chains::{put_over, put_over_from};
-use crate::meetings::{put_met, put_met_from};
-use crate::rows::{Row, put_cells, put_labels};
+use crate::meetings::{LabelsMet, Met, MetFrom};
+use crate::question::ask;
+use crate::rows::{Row, put_cells};
 use crate::status::{DONE, NO_CELL, NO_LABEL, OUT_OF_MEMORY};
-use crate::target::Target;
 use crate::unions::{check_cells, one_leaf};
 use s2ix_bag_pairs::Label;
 use s2ix_edit::Store;
@@ -31,7 +31,7 @@ pub fn at(store: &Store, leaf: u64, out: &mut [Row], number: &mut usize) -> u32
 }
 
 /// The pairs that share a leaf with a union of cells, given in any order and repeated or not: each once, by first shared leaf, then
-/// falling level, then rising label. Only a union is gathered, and none is made of at most 128 cells that follow one another.
+/// falling level, then rising label. Only a union is gathered, and none is made of at most 1,024 cells that follow one another.
 pub fn meet(alloc: Global, store: &Store, ids: &[u64], out: &mut [Row], number: &mut usize) -> u32
     ensures list { FillsOf (λ cells. rows_met cells store.now) ids.now result number.new out.old out.new }
     ensures memory { result ≡ out_of_memory → NeedUnion ids.now }
@@ -43,10 +43,7 @@ pub fn meet(alloc: Global, store: &Store, ids: &[u64], out: &mut [Row], number: 
     if let Some(leaf) = one_leaf(ids) {
         return put_over(store.table(), leaf, out, number);
     }
-    match Target::of(alloc, ids, number) {
-        Ok(target) => put_met(store.table(), target.cells(), out, number),
-        Err(why) => why,
-    }
+    ask(&Met, alloc, store, ids, out, number)
 }
 
 /// The pairs that `meet` puts, from a place on, counted from 0: as many as the buffer has room for. It goes no further along the table.
@@ -73,12 +70,7 @@ pub fn meet_from(
         *number = put_over_from(store.table(), leaf, from, out);
         return DONE;
     }
-    let target = match Target::of(alloc, ids, number) {
-        Ok(target) => target,
-        Err(why) => return why,
-    };
-    *number = put_met_from(store.table(), target.cells(), from, out);
-    DONE
+    ask(&MetFrom { from }, alloc, store, ids, out, number)
 }
 
 /// The labels of the pairs that share a leaf with a union of cells: each once, rising.
@@ -90,14 +82,7 @@ pub fn labels(alloc: Global, store: &Store, ids: &[u64], out: &mut [u32], number
     if ids.is_empty() {
         return DONE; // no cells, so no labels
     }
-    let target = match Target::of(alloc, ids, number) {
-        Ok(target) => target,
-        Err(why) => return why,
-    };
-    let Ok(list) = store.table().labels_of_cells(alloc, target.cells()) else {
-        return OUT_OF_MEMORY;
-    };
-    put_labels(list.as_slice(), out, number)
+    ask(&LabelsMet, alloc, store, ids, out, number)
 }
 
 // Whether no pair has a label. O(n) at worst for all n pairs; it does not allocate.

@@ -8,8 +8,7 @@ use Rattle.s2ix_bag_pairs.specs.declared.label.Label.{Label}
 use Rattle.s2ix_table_walk.specs.LabelList.{label_list}
 use Rattle.s2ix_table_walk.specs.Meeting.{meeting_of}
 use Rattle.s2ix_c_calls.specs.Lists.{IsFilled, labels_met}
-use Rattle.s2ix_c_calls.specs.Targets.{cells_in}
-use Rattle.s2ix_c_calls.proofs.MeetsTarget.{has_labels}
+use Rattle.s2ix_c_calls.proofs.MeetsTarget.{fills_labels}
 use Rattle.s2ix_c_calls.proofs.NoCells.{fills_nothing, no_labels_met}
 use Rattle.s2ix_c_calls.proofs.queries.labels.Goals as goal
 
@@ -20,11 +19,5 @@ returns-then-is_empty-clause-list c =
 
 pub returns-clause-list : goal.returns-clause-list
 returns-clause-list c =
-    let put = c.put_labels in
-    has_labels c.args.ids.now (cells_in c.in-Ok.target) c.args.store.now c.in-Ok.ensures.target put.result put.new.number c.args.out.now put.new.out
-    (subst₂
-    (λ (cells : List CellId) (hs : Collection).
-    IsFilled (map value_of (label_list (meeting_of cells hs))) put.result put.new.number c.args.out.now put.new.out)
-    c.cells.ensures.list c.table.ensures.pairs
-    (subst (λ (ls : List Label). IsFilled (map value_of ls) put.result put.new.number c.args.out.now put.new.out)
-    (c.as_slice.ensures.value ∙ c.in-Ok-labels_of_cells.ensures.list) put.ensures))
+    let ask = c.ask in
+    fills_labels c.args.ids.now c.args.store.now ask.result ask.new.number c.args.out.now ask.new.out ask.ensures

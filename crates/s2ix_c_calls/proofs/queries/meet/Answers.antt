@@ -7,9 +7,8 @@ use Rattle.s2ix_bag_pairs.specs.Collection.{Collection}
 use Rattle.s2ix_table_walk.specs.Contents.{contents_at}
 use Rattle.s2ix_table_walk.specs.Meeting.{meeting_of}
 use Rattle.s2ix_c_calls.specs.Lists.{IsFilled, row_of, rows_met}
-use Rattle.s2ix_c_calls.specs.Targets.{cells_in}
 use Rattle.s2ix_c_calls.proofs.MeetsLeaf.{meets_leaf}
-use Rattle.s2ix_c_calls.proofs.MeetsTarget.{meets_target}
+use Rattle.s2ix_c_calls.proofs.MeetsTarget.{fills_met}
 use Rattle.s2ix_c_calls.proofs.NoCells.{fills_nothing, no_rows_met}
 use Rattle.s2ix_c_calls.proofs.queries.meet.Goals as goal
 
@@ -27,10 +26,7 @@ returns-in-Some-clause-list c =
     (λ (hs : Collection). IsFilled (map row_of (contents_at (raw_of leaf) hs)) put.result put.new.number c.args.out.now put.new.out)
     c.table.ensures.pairs put.ensures)
 
-pub returns-in-Ok-clause-list : goal.returns-in-Ok-clause-list
-returns-in-Ok-clause-list c =
-    let put = c.put_met in
-    meets_target c.args.ids.now (cells_in c.in-Ok.target) c.args.store.now c.in-Ok.ensures.target put.result put.new.number c.args.out.now put.new.out
-    (subst₂
-    (λ (cells : List CellId) (hs : Collection). IsFilled (map row_of (meeting_of cells hs)) put.result put.new.number c.args.out.now put.new.out)
-    c.cells.ensures.list c.table-in-Ok.ensures.pairs put.ensures)
+pub returns-clause-list : goal.returns-clause-list
+returns-clause-list c =
+    let ask = c.ask in
+    fills_met c.args.ids.now c.args.store.now ask.result ask.new.number c.args.out.now ask.new.out ask.ensures

@@ -9,9 +9,8 @@ use Rattle.s2ix_table_walk.specs.Contents.{contents_at}
 use Rattle.s2ix_table_walk.specs.Meeting.{meeting_of}
 use Rattle.s2ix_c_calls.specs.Lists.{IsPut, row_of, rows_met_from}
 use Rattle.s2ix_c_calls.specs.Status.{done}
-use Rattle.s2ix_c_calls.specs.Targets.{cells_in}
 use Rattle.s2ix_c_calls.proofs.MeetsLeaf.{meets_leaf_from}
-use Rattle.s2ix_c_calls.proofs.MeetsTarget.{meets_target_from}
+use Rattle.s2ix_c_calls.proofs.MeetsTarget.{lists_met}
 use Rattle.s2ix_c_calls.proofs.NoCells.{lists_checked, lists_nothing, no_rows_met_from}
 use Rattle.s2ix_c_calls.proofs.queries.meet_from.Goals as goal
 
@@ -41,8 +40,5 @@ returns-in-Some-clause-list c =
 
 pub returns-clause-list : goal.returns-clause-list
 returns-clause-list c =
-    let put = c.put_met_from in
-    meets_target_from c.args.ids.now (cells_in c.in-Ok.target) c.args.store.now c.in-Ok.ensures.target c.args.from put.result c.args.out.now put.new.out
-    (subst₂
-    (λ (cells : List CellId) (hs : Collection). IsPut (map row_of (take (length c.args.out.now) (drop c.args.from (meeting_of cells hs)))) done put.result c.args.out.now put.new.out)
-    c.cells.ensures.list c.table-2.ensures.pairs put.ensures)
+    let ask = c.ask in
+    lists_met c.args.ids.now c.args.store.now ask.result ask.new.number c.args.out.now ask.new.out c.args.from ask.ensures
