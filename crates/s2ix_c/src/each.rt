@@ -1,9 +1,10 @@
 //! Lists for each of many leaves or targets, of the store of a handle. No call here changes it.
 #![tactic(auto, using(crate::proofs::Through::through_open, crate::proofs::Through::through_closed))]
 
-ghost use Rattle.std.specs.Prelude.{◌≡◌};
+ghost use Rattle.std.specs.Prelude.{◌≡◌, ◌≢◌, []};
 ghost use Rattle.s2ix_c_calls.specs.Handle.{held_of};
 ghost use Rattle.s2ix_c.specs.Calls.{Through};
+ghost use Rattle.s2ix_c_calls.specs.Asked.{NeedUnion};
 ghost use Rattle.s2ix_c_calls.specs.Each.{AnswersLeaves, AnswersTargets};
 ghost use Rattle.s2ix_c_calls.specs.Lists.{label_of, labels_met, row_of, rows_met};
 ghost use Rattle.s2ix_c_calls.specs.Status.{closed};
@@ -68,7 +69,7 @@ pub extern "C" fn s2ix_meet_each(
     answered: &mut usize,
 ) -> u32
     ensures { Through (λ s t. (t ≡ s)
-        × AnswersTargets (λ cells. rows_met cells s) cells.now bounds.now result answered.new ends.old ends.new rows.old rows.new)
+        × AnswersTargets (λ cells. rows_met cells s) NeedUnion cells.now bounds.now result answered.new ends.old ends.new rows.old rows.new)
         ((result ≡ closed) × (answered.new ≡ 0) × (ends.new ≡ ends.old) × (rows.new ≡ rows.old)) (held_of handle.old) (held_of handle.new) }
 {
     *answered = 0;
@@ -91,7 +92,7 @@ pub extern "C" fn s2ix_labels_each(
     answered: &mut usize,
 ) -> u32
     ensures { Through (λ s t. (t ≡ s)
-        × AnswersTargets (λ cells. labels_met cells s) cells.now bounds.now result answered.new ends.old ends.new labels.old labels.new)
+        × AnswersTargets (λ cells. labels_met cells s) (λ ids. ids ≢ []) cells.now bounds.now result answered.new ends.old ends.new labels.old labels.new)
         ((result ≡ closed) × (answered.new ≡ 0) × (ends.new ≡ ends.old) × (labels.new ≡ labels.old)) (held_of handle.old) (held_of handle.new) }
 {
     *answered = 0;

@@ -29,8 +29,8 @@ module _ {A : Type 0} (from : ℕ) (old was part rest new : List A) (within : fr
             ∙ ap (λ l. take from old ++ l) (take-append-le number part rest short ∙ front);
       }
 
-  module _ (list : List CellId → List A) (ids : List ℕ) (status number to : ℕ) (moved : status ≡ done → to ≡ from + number) where
-    puts_list : (cells : List CellId) → AreCells ids cells → IsFilled (list cells) status number was part → PutsNext list ids status from to old new
+  module _ (list : List CellId → List A) (wants : List ℕ → Type 0) (ids : List ℕ) (status number to : ℕ) (moved : status ≡ done → to ≡ from + number) where
+    puts_list : (cells : List CellId) → AreCells ids cells → IsFilled (list cells) status number was part → PutsNext list wants ids status from to old new
     puts_list cells are put =
         elim (cases_eq status done) [
           | inl is_done ↦ record {
@@ -57,7 +57,7 @@ module _ {A : Type 0} (from : ℕ) (old was part rest new : List A) (within : fr
               }
         ]
 
-    puts_none : LacksUnion ids status number → (status ≡ out_of_memory → ids ≢ []) → PutsNext list ids status from to old new
+    puts_none : LacksUnion ids status number → (status ≡ out_of_memory → wants ids) → PutsNext list wants ids status from to old new
     puts_none lacks some =
         elim lacks [
           | inl wrong ↦
@@ -80,7 +80,7 @@ module _ {A : Type 0} (from : ℕ) (old was part rest new : List A) (within : fr
               }
         ]
 
-    pub puts_next : FillsOf list ids status number was part → (status ≡ out_of_memory → ids ≢ []) → PutsNext list ids status from to old new
+    pub puts_next : FillsOf list ids status number was part → (status ≡ out_of_memory → wants ids) → PutsNext list wants ids status from to old new
     puts_next lists some =
         elim lists [
           | inl put ↦ puts_list put.0 put.1 put.2
@@ -169,10 +169,10 @@ module _ {A : Type 0} (list : List CellId → List A) (ids bounds : List ℕ) (a
   is_target : (cells : List CellId) → AreCells (target_ids ids bounds answered) cells → IsTarget ids bounds answered cells
   is_target cells are = record { span = record { within = within; rising = rising; listed = listed }; named = are }
 
-  pub met_more : (status to : ℕ) (new : List A) → length new ≡ length out → answered < length ends → status ≡ done
-      → PutsNext list (target_ids ids bounds answered) status count to out new
+  pub met_more : (wants : List ℕ → Type 0) (status to : ℕ) (new : List A) → length new ≡ length out → answered < length ends → status ≡ done
+      → PutsNext list wants (target_ids ids bounds answered) status count to out new
       → HasMet list ids bounds (answered + 1) to (slice_set ends answered to) new
-  met_more status to new long_new has_end is_done puts =
+  met_more wants status to new long_new has_end is_done puts =
       let put = puts.put is_done in
       let next = put.2 in
       let long = length-append met.targets (put.0 ∷ []) in record {

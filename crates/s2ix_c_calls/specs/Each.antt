@@ -61,11 +61,11 @@ pub record IsNoTarget (ids bounds : List ℕ) (k : ℕ) : Type 0 where
   pub span : IsSpan ids bounds k
   pub wrong : LacksCell (target_ids ids bounds k)
 
--- to answer the target at a place may want memory: it has cells, and its end has room
-pub record WantsMemory (ids bounds ends : List ℕ) (k : ℕ) : Type 0 where
+-- to answer the target at a place may want memory: its numbers are such as want it, and its end has room
+pub record WantsMemory (wants : List ℕ → Type 0) (ids bounds ends : List ℕ) (k : ℕ) : Type 0 where
   pub span : IsSpan ids bounds k
   pub right : AreAllCells (target_ids ids bounds k)
-  pub some : target_ids ids bounds k ≢ []
+  pub such : wants (target_ids ids bounds k)
   pub listed : k < length ends
 
 -- after the answered targets there is no room for the next one
@@ -74,15 +74,15 @@ pub record LacksRoomAfter {A : Type 0} (list : List CellId → List A) (ids boun
   pub next : IsTarget ids bounds (length targets) cells
   pub short : (length ends ≤ length targets) ⊎ (length out < length (flat_map list (targets ++ cells ∷ [])))
 
--- targets are answered from the first one on, and the status says why the next one is not
-pub record AnswersTargets {A : Type 0} (list : List CellId → List A) (ids bounds : List ℕ) (status answered : ℕ) (ends_old ends_new : List ℕ) (old new : List A) : Type 0 where
+-- targets are answered from the first one on, and the status says why the next one is not; memory may be wanted for such numbers
+pub record AnswersTargets {A : Type 0} (list : List CellId → List A) (wants : List ℕ → Type 0) (ids bounds : List ℕ) (status answered : ℕ) (ends_old ends_new : List ℕ) (old new : List A) : Type 0 where
   pub targets : List (List CellId)
   pub count : answered ≡ length targets
   pub front : AreMet list ids bounds targets ends_new new
   pub all : status ≡ done → answered ≡ target_count bounds
   pub wrong_bounds : status ≡ no_span → IsNoSpan ids bounds answered
   pub wrong_cell : status ≡ no_cell → IsNoTarget ids bounds answered
-  pub memory : status ≡ out_of_memory → WantsMemory ids bounds ends_old answered
+  pub memory : status ≡ out_of_memory → WantsMemory wants ids bounds ends_old answered
   pub short : status ≡ no_room → LacksRoomAfter list ids bounds targets ends_old old
   pub only : (status ≡ done) ⊎ (status ≡ no_span) ⊎ (status ≡ no_cell) ⊎ (status ≡ out_of_memory) ⊎ (status ≡ no_room)
 
@@ -93,11 +93,11 @@ pub record IsNext {A : Type 0} (list : List A) (from to : ℕ) (old new : List A
   pub put : take to new ≡ take from old ++ list
 
 -- the same for the list of a target, or the status says why there is none
-pub record PutsNext {A : Type 0} (list : List CellId → List A) (ids : List ℕ) (status from to : ℕ) (old new : List A) : Type 0 where
+pub record PutsNext {A : Type 0} (list : List CellId → List A) (wants : List ℕ → Type 0) (ids : List ℕ) (status from to : ℕ) (old new : List A) : Type 0 where
   pub before : take from new ≡ take from old
   pub put : status ≡ done → (cells : List CellId) × AreCells ids cells × IsNext (list cells) from to old new
   pub wrong_cell : status ≡ no_cell → LacksCell ids
-  pub memory : status ≡ out_of_memory → AreAllCells ids × (ids ≢ [])
+  pub memory : status ≡ out_of_memory → AreAllCells ids × wants ids
   pub short : status ≡ no_room → (cells : List CellId) × AreCells ids cells × (length old < from + length (list cells))
   pub only : (status ≡ done) ⊎ (status ≡ no_cell) ⊎ (status ≡ out_of_memory) ⊎ (status ≡ no_room)
 

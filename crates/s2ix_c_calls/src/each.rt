@@ -33,7 +33,7 @@ pub fn at_each<R: OfHeld>(
 
 /// What is put for a target: the pairs that meet it, or their labels.
 pub trait OfTarget: Copy {
-    ghost use Rattle.std.specs.Prelude.{◌≡◌, ◌≢◌, List, []};
+    ghost use Rattle.std.specs.Prelude.{◌≡◌, ℕ, List};
     ghost use Rattle.s2id_core.specs.declared.cell_id.CellId.{CellId};
     ghost use Rattle.s2ix_edit_plan.specs.State.{State};
     ghost use Rattle.s2ix_c_calls.specs.Lists.{FillsOf};
@@ -42,16 +42,22 @@ pub trait OfTarget: Copy {
     // what is put for the union of these cells
     ghost list: { List CellId → State → List Self };
 
+    // to put it for these numbers may want memory
+    ghost wants: { List ℕ → Type 0 };
+
     /// Puts it to the front of `out` as far as there is room for it; `number` is how many items there are.
     fn put(alloc: Global, store: &Store, ids: &[u64], out: &mut [Self], number: &mut usize) -> u32
         ensures list { FillsOf (λ cells. list cells store.now) ids.now result number.new out.old out.new }
-        ensures memory { result ≡ out_of_memory → ids.now ≢ [] };
+        ensures memory { result ≡ out_of_memory → wants ids.now };
 }
 
 impl OfTarget for Row {
+    ghost use Rattle.s2ix_c_calls.specs.Asked.{NeedUnion};
     ghost use Rattle.s2ix_c_calls.specs.Lists.{rows_met};
 
     ghost list = { rows_met };
+
+    ghost wants = { NeedUnion };
 
     fn put(alloc: Global, store: &Store, ids: &[u64], out: &mut [Row], number: &mut usize) -> u32 {
         meet(alloc, store, ids, out, number)
@@ -59,9 +65,12 @@ impl OfTarget for Row {
 }
 
 impl OfTarget for u32 {
+    ghost use Rattle.std.specs.Prelude.{◌≢◌, []};
     ghost use Rattle.s2ix_c_calls.specs.Lists.{labels_met};
 
     ghost list = { labels_met };
+
+    ghost wants = { λ ids. ids ≢ [] };
 
     fn put(alloc: Global, store: &Store, ids: &[u64], out: &mut [u32], number: &mut usize) -> u32 {
         labels(alloc, store, ids, out, number)
@@ -77,7 +86,7 @@ fn put_next<R: OfTarget>(
     count: &mut usize,
 ) -> u32
     requires { count.old ≤ length out.old }
-    ensures { PutsNext (λ cells. R.list cells store.now) ids.now result count.old count.new out.old out.new }
+    ensures { PutsNext (λ cells. R.list cells store.now) R.wants ids.now result count.old count.new out.old out.new }
 {
     let mut number = 0;
     let status = R::put(alloc, store, ids, &mut out[*count..], &mut number);
@@ -99,7 +108,7 @@ fn refuse_room(ids: &[u64]) -> u32
 /// What is put for each of some targets, one after the other: a target has the cells from one bound on and before the next, so there is a
 /// bound more than there are targets. Beside each target `ends` gets how many items are put for it and those before it. `answered` is how
 /// many targets are answered, from the first one on, and the status says why the next one is not: wrong bounds come first, then a wrong cell.
-/// It wants no memory for a target without cells.
+/// It wants no memory for a target without cells, nor for the pairs that meet at most 1,024 cells that follow one another.
 pub fn meet_each<R: OfTarget>(
     alloc: Global,
     store: &Store,
@@ -109,7 +118,7 @@ pub fn meet_each<R: OfTarget>(
     out: &mut [R],
     answered: &mut usize,
 ) -> u32
-    ensures { AnswersTargets (λ cells. R.list cells store.now) cells.now bounds.now result answered.new ends.old ends.new out.old out.new }
+    ensures { AnswersTargets (λ cells. R.list cells store.now) R.wants cells.now bounds.now result answered.new ends.old ends.new out.old out.new }
 {
     *answered = 0;
     let mut count = 0;

@@ -12,5 +12,5 @@ loop-answered-preserved g c =
     let listed : target_end c.args.bounds.now l.answered ≤ length c.args.cells.now = omega arith in
     let has_end : l.answered < length l.ends = omega arith in
     met_more (λ cells. g.R.OfTarget.list cells c.args.store.now) c.args.cells.now c.args.bounds.now l.answered l.count l.ends l.out
-    l.invariant within rising listed c.put_next-status.result c.put_next-status.new.count
+    l.invariant within rising listed g.R.OfTarget.wants c.put_next-status.result c.put_next-status.new.count
     c.put_next-status.new.out c.put_next-status.auto.out has_end c.if-status-ne-DONE.false c.put_next-status.ensures

@@ -11,7 +11,7 @@ returns-then-status-eq-DONE g c =
     let long : count + length (take (length out - count) (drop count out)) ≡ length out =
     omega (arith, length-take (length out - count) (drop count out), length-drop count out) in
     puts_next count out _ c.put-status.new.out _ _ c.requires long c.put-status.auto.out refl (λ cells. g.R.OfTarget.list cells c.args.store.now)
-    c.args.ids.now c.put-status.result c.put-status.new.number _ (λ _. refl) c.put-status.ensures.list c.put-status.ensures.memory
+    g.R.OfTarget.wants c.args.ids.now c.put-status.result c.put-status.new.number _ (λ _. refl) c.put-status.ensures.list c.put-status.ensures.memory
 
 pub returns-else-status-eq-DONE : goal.returns-else-status-eq-DONE
 returns-else-status-eq-DONE g c =
@@ -20,5 +20,5 @@ returns-else-status-eq-DONE g c =
     let long : count + length (take (length out - count) (drop count out)) ≡ length out =
     omega (arith, length-take (length out - count) (drop count out), length-drop count out) in
     puts_next count out _ c.put-status.new.out _ _ c.requires long c.put-status.auto.out refl (λ cells. g.R.OfTarget.list cells c.args.store.now)
-    c.args.ids.now c.put-status.result c.put-status.new.number _ (λ is_done. absurd (c.if-status-eq-DONE.false is_done)) c.put-status.ensures.list
+    g.R.OfTarget.wants c.args.ids.now c.put-status.result c.put-status.new.number _ (λ is_done. absurd (c.if-status-eq-DONE.false is_done)) c.put-status.ensures.list
     c.put-status.ensures.memory
