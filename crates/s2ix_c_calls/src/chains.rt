@@ -19,17 +19,6 @@ use s2id_core::CellId;
 use s2ix_bag_lists::FlatHeld;
 use s2ix_table_queries::{LeafHint, RangeTable};
 
-// Where the chain over a leaf begins, or `None` if nothing lies there.
-#[inline]
-fn first_over<T: RangeTable>(table: &T, leaf: CellId) -> Option<T::Place>
-    requires { level_of leaf ≡ 30 }
-    ensures place { (p : T.Place) → result ≡ Some p → IsPlace (T.chain table.now) p }
-    ensures pairs { from_place (T.chain table.now) result ≡ contents_at (raw_of leaf) (T.pairs table.now) }
-    ensures within_limit { length (from_place (T.chain table.now) result) ≤ 1000000 }
-{
-    table.first_over(leaf)
-}
-
 // Where the chain of a range begins, or `None` if nothing lies over it.
 #[inline]
 fn first_in<T: RangeTable>(table: &T, place: usize) -> Option<T::Place>
@@ -217,6 +206,31 @@ fn place_after<T: RangeTable>(table: &T, first: Option<T::Place>, count: usize) 
     next
 }
 
+// Passes over some pairs of a chain that is kept in lists, from a place of it on, or over all if it has fewer; `passed` is how many. Returns
+// where the chain goes on.
+#[inline(always)]
+fn pass_linked(
+    held: &[FlatHeld],
+    outers: &[u32],
+    first: u32,
+    count: usize,
+    passed: &mut usize,
+) -> u32
+    requires { length outers.now ≡ length held.now }
+    ensures rest { (chain : ℕ → Collection) → AreLinked held.now outers.now chain → chain result ≡ drop passed.new (chain first) }
+    ensures within { (chain : ℕ → Collection) → AreLinked held.now outers.now chain → passed.new ≤ length (chain first) }
+    ensures at_most { passed.new ≤ count }
+    ensures all { passed.new < count → length held.now ≤ result }
+{
+    *passed = 0;
+    let mut place = first;
+    while *passed < count && (place as usize) < held.len() {
+        *passed += 1;
+        place = outers[place as usize];
+    }
+    place
+}
+
 // Puts the pairs over a leaf from one of them on, counted from 0, to the front of `out`: as many as it has room for. The answer is how many
 // are put. It does not allocate, and goes no further along the chain.
 pub(crate) fn put_over_from<T: RangeTable>(
@@ -228,9 +242,13 @@ pub(crate) fn put_over_from<T: RangeTable>(
     requires { level_of leaf ≡ 30 }
     ensures { IsPut (map row_of (take (length out.old) (drop from (contents_at (raw_of leaf) (T.pairs table.now))))) done result out.old out.new }
 {
-    let over = first_over(table, leaf);
-    let first = place_after(table, over, from);
+    let over = table.contents_near(leaf, LeafHint::none());
+    let mut passed = 0;
+    let first = pass_linked(over.held, over.outers, over.innermost, from, &mut passed);
     let mut count = 0;
-    let _rest = write_begun(table, first, 0, out, &mut count);
-    count
+    let _next = write_linked(over.held, over.outers, first, out, &mut count);
+    let outer = place_after(table, over.rest, from - passed);
+    let mut behind = 0;
+    let _rest = write_begun(table, outer, 0, &mut out[count..], &mut behind);
+    count + behind
 }

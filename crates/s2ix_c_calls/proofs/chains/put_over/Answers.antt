@@ -1,14 +1,17 @@
 -- The chain in lists goes out, and then the one behind it.
-use Rattle.std.proofs.Common.{◌≡◌, ◌<◌, ◌≤◌, ◌+◌, ◌-◌, ◌++◌, ◌∙◌, List, [], length, map, take, drop, ap, subst, sym, refl, arith, length-append}
+use Rattle.std.proofs.Common.{◌≡◌, ℕ, ◌<◌, ◌≤◌, ◌+◌, ◌-◌, ◌++◌, ◌∙◌, List, [], length, map, take, drop, ap, subst, sym, refl, arith, length-append}
 use Rattle.std.proofs.lemmas.List.{append-nil, length-drop, length-map, length-take, length-take-le, take_rest}
+use Rattle.s2id_core.specs.CellId.{raw_of}
 use Rattle.s2ix_bag_pairs.specs.Collection.{Collection}
+use Rattle.s2ix_table_walk.specs.Contents.{contents_at}
 use Rattle.s2ix_table_walk.specs.Places.{from_place}
 use Rattle.s2ix_table_queries.proofs.Linking.{over_leaf}
 use Rattle.s2ix_c_calls.specs.Lists.{IsFilled, row_of}
+use Rattle.s2ix_c_calls.specs.Status.{no_room}
 use Rattle.s2ix_c_calls.specs.declared.rows.Row.{Row}
 use Rattle.s2ix_c_calls.proofs.Begun.{front_all}
-use Rattle.s2ix_c_calls.proofs.Behind.{fills_before, fills_behind}
-use Rattle.s2ix_c_calls.proofs.Filling.{empty, left_short}
+use Rattle.s2ix_c_calls.proofs.Behind.{fills_both, to_the_end}
+use Rattle.s2ix_c_calls.proofs.Filling.{left_short}
 use Rattle.s2ix_c_calls.proofs.Linked.{both_short}
 use Rattle.s2ix_c_calls.proofs.chains.put_over.Given.{Over}
 use Rattle.s2ix_c_calls.proofs.chains.put_over.Goals as goal
@@ -86,48 +89,29 @@ overflow_add-number-2 g c =
       short g s,
     )
 
--- no room is left behind that of the chain behind
-no_more : (g : Over) (c : After-put_chain-status g)
-    → drop (length c.write_linked-next.new.out - c.write_linked-next.new.count) (drop c.write_linked-next.new.count c.write_linked-next.new.out)
-    ≡ []
-no_more g c =
-    let w = c.write_linked-next in
-    let count = w.new.count in
-    let out = w.new.out in
-    empty (drop (length out - count) (drop count out))
-    (omega (arith, length-drop (length out - count) (drop count out), length-drop count out))
-
-new_is : (g : Over) (c : After-put_chain-status g)
-    → take c.write_linked-next.new.count c.write_linked-next.new.out
+-- the pairs of both chains are put, as far as there is room
+filled : (g : Over) (c : After-put_chain-status g) (told : ℕ) → (0 < c.length_linked-more.result → told ≡ no_room)
+    → (c.length_linked-more.result ≡ 0 → told ≡ c.put_chain-status.result)
+    → IsFilled (map row_of (contents_at (raw_of c.args.leaf) (g.T.RangeTable.pairs c.args.table.now))) told
+    (c.write_linked-next.new.count + (c.length_linked-more.result + c.put_chain-status.new.number)) c.args.out.now
+    (take c.write_linked-next.new.count c.write_linked-next.new.out
     ++ (c.put_chain-status.new.out
-    ++ drop (length c.write_linked-next.new.out - c.write_linked-next.new.count) (drop c.write_linked-next.new.count c.write_linked-next.new.out))
-    ≡ take c.write_linked-next.new.count c.write_linked-next.new.out ++ c.put_chain-status.new.out
-new_is g c =
+    ++ drop (length c.write_linked-next.new.out - c.write_linked-next.new.count) (drop c.write_linked-next.new.count c.write_linked-next.new.out)))
+filled g c told no_more none =
+    let over = c.contents_near-over.ensures in
+    let are = over.contents in
     let w = c.write_linked-next in
-    let front = take w.new.count w.new.out in
-    let tail = c.put_chain-status.new.out in
-    ap (λ l. front ++ (tail ++ l)) (no_more g c) ∙ ap (λ l. front ++ l) (append-nil tail)
+    fills_both row_of (are.listed c.contents_near-over.result.innermost) (are.listed w.result) _ _ w.new.count c.length_linked-more.result
+    c.args.out.now w.new.out _ _ c.put_chain-status.new.out c.put_chain-status.result c.put_chain-status.new.number
+    (over_leaf c.args.leaf are c.requires over.from over.limit) (rows g c) w.ensures.after w.auto.out w.ensures.room
+    (λ less. are.linked.ends w.result (w.ensures.full less)) (counted g c) (take_rest w.new.out w.new.count ∙ w.ensures.after) (behind g c)
+    c.put_chain-status.auto.out (to_the_end w.new.count w.new.out c.put_chain-status.new.out) told no_more none
 
 pub returns-then-more-gt0 : goal.returns-then-more-gt0
 returns-then-more-gt0 g c =
-    let s = (goal.at.returns-then-more-gt0 g c).After-put_chain-status in
-    let over = c.contents_near-over.ensures in
-    let are = over.contents in
-    let w = c.write_linked-next in
-    fills_before row_of (are.listed c.contents_near-over.result.innermost) (are.listed w.result) _ _ w.new.count c.length_linked-more.result
-    c.args.out.now w.new.out _ _ c.put_chain-status.new.out c.put_chain-status.result c.put_chain-status.new.number
-    (over_leaf c.args.leaf are c.requires over.from over.limit) (rows g s) w.ensures.after w.auto.out w.ensures.room
-    (λ less. are.linked.ends w.result (w.ensures.full less)) (counted g s) (take_rest w.new.out w.new.count ∙ w.ensures.after) (behind g s)
-    c.put_chain-status.auto.out (new_is g s) c.if-more-gt0.true
+    filled g (goal.at.returns-then-more-gt0 g c).After-put_chain-status no_room (λ _. refl) (λ none. absurd (omega (arith, c.if-more-gt0.true)))
 
 pub returns-else-more-gt0 : goal.returns-else-more-gt0
 returns-else-more-gt0 g c =
-    let s = (goal.at.returns-else-more-gt0 g c).After-put_chain-status in
-    let over = c.contents_near-over.ensures in
-    let are = over.contents in
-    let w = c.write_linked-next in
-    fills_behind row_of (are.listed c.contents_near-over.result.innermost) (are.listed w.result) _ _ w.new.count c.length_linked-more.result
-    c.args.out.now w.new.out _ _ c.put_chain-status.new.out c.put_chain-status.result c.put_chain-status.new.number
-    (over_leaf c.args.leaf are c.requires over.from over.limit) (rows g s) w.ensures.after w.auto.out w.ensures.room
-    (λ less. are.linked.ends w.result (w.ensures.full less)) (counted g s) (take_rest w.new.out w.new.count ∙ w.ensures.after) (behind g s)
-    c.put_chain-status.auto.out (new_is g s) (omega (arith, c.if-more-gt0.false))
+    filled g (goal.at.returns-else-more-gt0 g c).After-put_chain-status c.put_chain-status.result
+    (λ some. absurd (omega (arith, c.if-more-gt0.false))) (λ _. refl)
