@@ -11,8 +11,11 @@ enum { GROUPS = 400, NEIGHBOURS = 50, HELD = GROUPS * (NEIGHBOURS + 1), OF_NEIGH
 /* Labels that come and go; and one that no pair ever has, unless pairs are moved to it. */
 enum { COMES = 1000, ROUNDS = 8, ADDED = 8, MISSING = 1000000000 };
 enum { PAIRS = 1000000, COPIES = 9, CHANGES = 1000, ROOM = 1 << 21, ASKED = 100, CELLS = 8 };
+/* A page, and where it begins. */
+enum { PAGE = 256, FROM = 5000 };
 
 static s2ix_row rows[HELD], found[HELD];
+static s2ix_leaf_range ranges[PAGE];
 static uint64_t cells[HELD];
 static uint8_t before[ROOM], after[ROOM], journal[ROOM];
 static size_t before_len, after_len, journal_len, number, place, entry;
@@ -57,6 +60,9 @@ CALL(ask_targets) {
     return status;
 }
 
+CALL(page_of_pairs) { return (void)label, s2ix_pairs(handle, FROM, found, PAGE, &number); }
+CALL(page_of_ranges) { return (void)label, s2ix_ranges(handle, FROM, ranges, PAGE, &number); }
+
 /* Makes a call, whose instructions Callgrind counts. */
 uint32_t counted(call *made, s2ix_handle *handle, uint32_t label) { return made(handle, label); }
 
@@ -71,7 +77,7 @@ static void find(const char *asked, const char *state, s2ix_handle *handle, uint
     EXPECT(number, pairs);
 }
 
-/* Asks a store by labels and by cells. Label 0 has so many pairs; if none, it had some before. */
+/* Asks a store by labels, by cells and for pages. Label 0 has so many pairs; if none, it had some before. */
 static void ask(s2ix_handle *handle, const char *state, size_t of_zero) {
     find("no pair", state, handle, MISSING, 0);
     find(of_zero ? "neighbours" : "let through", state, handle, 0, of_zero);
@@ -81,6 +87,10 @@ static void ask(s2ix_handle *handle, const char *state, size_t of_zero) {
     EXPECT(number, ASKED);
     count("targets", state, ask_targets, handle, 0, S2IX_DONE);
     EXPECT(number, ASKED * CELLS);
+    count("pairs", state, page_of_pairs, handle, 0, S2IX_DONE);
+    EXPECT(number, PAGE);
+    count("ranges", state, page_of_ranges, handle, 0, S2IX_DONE);
+    EXPECT(number, PAGE);
 }
 
 /* Regions and edits of a label that no pair has, and of one that neighbours have; edits are undone. */

@@ -51,7 +51,7 @@ fn length_begun<T: RangeTable>(table: &T, first: Option<T::Place>, from: u64) ->
 
 // Writes the pairs of a chain from a place on, up to the first whose cell begins before the leaf number `from`, to the front of `out` while
 // there is room; `count` is how many are written. Returns where the chain goes on if the room ends there.
-#[inline]
+#[inline(always)]
 fn write_begun<T: RangeTable>(
     table: &T,
     first: Option<T::Place>,
@@ -87,8 +87,8 @@ fn write_begun<T: RangeTable>(
 
 // Puts the pairs of a chain from a place on, up to the first whose cell begins before the leaf number `from`, to the front of `out` as far as
 // it has room; `number` is how many there are.
-#[inline]
-fn put_chain<T: RangeTable>(
+#[inline(never)]
+fn put_places<T: RangeTable>(
     table: &T,
     first: Option<T::Place>,
     from: u64,
@@ -106,6 +106,26 @@ fn put_chain<T: RangeTable>(
         return NO_ROOM;
     }
     DONE
+}
+
+// The same at once if nothing lies there, as behind most chains in lists.
+#[inline(always)]
+fn put_chain<T: RangeTable>(
+    table: &T,
+    first: Option<T::Place>,
+    from: u64,
+    out: &mut [Row],
+    number: &mut usize,
+) -> u32
+    requires place { (p : T.Place) → first ≡ Some p → IsPlace (T.chain table.now) p }
+    requires within_limit { length (from_place (T.chain table.now) first) ≤ 1000000 }
+    ensures { IsFilled (map row_of (front_from from (from_place (T.chain table.now) first))) result number.new out.old out.new }
+{
+    if first.is_none() {
+        *number = 0;
+        return DONE;
+    }
+    put_places(table, first, from, out, number)
 }
 
 // Writes the pairs of a chain that is kept in lists, from a place of it on, to the front of `out` while there is room; `count` is how many are
