@@ -2,7 +2,6 @@
 // by clients/cpp/s2ix.hpp, and the calls of s2ix.h beneath are measured beside S2 too. A line for each figure: its name, how many operations an
 // order of it has, and the nanoseconds of the processor that ours and S2 took for an order, the least of many turns. With instructions callgrind
 // counts one turn of each.
-#include <s2ix.hpp>
 #include <time.h>
 #include <valgrind/callgrind.h>
 
@@ -23,6 +22,9 @@
 #include "s2/s2cell_index.h"
 #include "s2/s2cell_union.h"
 #include "scene.h"
+
+// (after S2's headers, as s2ix.hpp says)
+#include <s2ix.hpp>
 
 namespace {
 

@@ -2,7 +2,6 @@
 // clients/cpp/s2ix.hpp. Then ours is asked by a call of its own, also while one more thread edits it each 10 ms. A line for each figure: its
 // name, the number of threads that ask, and how many points they ask in a second of the clock and in one of a processor, the most of many short
 // runs, which take that many seconds together.
-#include <s2ix.hpp>
 #include <time.h>
 
 #include <algorithm>
@@ -20,6 +19,9 @@
 #include "s2/s2cell_id.h"
 #include "s2/s2cell_index.h"
 #include "scene.h"
+
+// (after S2's headers, as s2ix.hpp says)
+#include <s2ix.hpp>
 
 namespace {
 

@@ -7,6 +7,9 @@
 // memory is refused, std::logic_error if an S2CellIndex is to change while it is visited, else Error, which has the number that is no
 // cell's or no label's.
 //
+// Include S2's headers before this one. They set an option for all functions after them, and g++ puts no function that has it into one that
+// doesn't. So in the other order each S2CellId costs a call or two.
+//
 // Threads may share an Index, and a const one as any const object of C++: any number of them ask it side by side, while one at a time edits it.
 // Each answer is that of one state: that after the last edit that had returned when the thread asked, or a later one. While glibc says that
 // the process has one thread, no lock is taken.

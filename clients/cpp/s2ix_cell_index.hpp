@@ -42,6 +42,15 @@ struct HasReserve : std::false_type {};
 template <class Set>
 struct HasReserve<Set, std::void_t<decltype(std::declval<Set&>().reserve(std::size_t{}))>> : std::true_type {};
 
+// Goes to the next copy of a row, counted from 0, and returns true; if that was the last one, goes back to the first and returns false.
+inline bool next_copy(const Row& row, std::uint32_t& copy) noexcept {
+  // (most rows are one copy)
+  if (row.count == 1) return false;
+  if (++copy < row.count) return true;
+  copy = 0;
+  return false;
+}
+
 // What is answered, besides the statuses of s2ix.h, if the ranges have moved since an iterator was positioned.
 inline constexpr std::uint32_t ranges_moved = 0xffffffff;
 
@@ -98,7 +107,7 @@ inline void check_stale(std::uint32_t status) {
 //   a ContentsIterator states no order            gives the innermost cell first, the labels of one cell rising
 //   GetIntersectingLabels gives absl's set        a LabelSet, which rises and has its calls, or any set that is passed
 //
-// A thread that visits or asks for labels keeps up to 80 kB of room for its next query, until it ends.
+// A thread that visits, asks for labels or goes along a ContentsIterator keeps up to 84 kB of room for its next query, until it ends.
 //
 // index().undo() takes back one Build(). If a limit would be passed or the journal is full (S2IX_JOURNAL_FULL), Build() and queries throw:
 // the index stays as it was, and the adds wait for the next Build(). Forget() makes room in the journal. Only Clear() drops adds; only
@@ -237,8 +246,7 @@ class BasicS2CellIndex {
     bool done() const { return pages_.is_at_end(); }
 
     void Next() {
-      if (++copy_ < pages_->count) return;
-      copy_ = 0;
+      if (detail::next_copy(*pages_, copy_)) return;
       pages_.next();
       if (pages_.is_at_end()) pages_.turn_to(next_page(pages_.made()));
     }
@@ -589,9 +597,7 @@ class BasicS2CellIndex {
     bool done() const { return rows_.done(); }
 
     void Next() {
-      if (++copy_ < rows_->count) return;
-      copy_ = 0;
-      rows_.next();
+      if (!detail::next_copy(*rows_, copy_)) rows_.next();
     }
 
    private:
@@ -658,7 +664,7 @@ class BasicS2CellIndex {
       return rows_.fill([&](Row* to, std::size_t room, std::size_t* number) { return s2ix_contents(handle, at.place, told.from, to, room, number); });
     }
 
-    detail::FewRows rows_;
+    detail::FoundRows rows_;
     const BasicS2CellIndex* index_ = nullptr;
     std::uint32_t copy_ = 0;
     Told told_;
@@ -675,22 +681,22 @@ class BasicS2CellIndex {
   template <class Union, class Visitor>
   bool visit_met(const Union& target, Visitor& visitor) const {
     const detail::Given cells(target);
-    const Index& beneath = built();
-    const detail::Handle::Visit visit(beneath.handle_);
+    const detail::Handle::Visit visit(built().handle_);
     // (in pages that grow, so that a visit which ends early reads little of a long list)
     detail::Page<Row> page;
-    std::size_t from = 0;
-    for (std::size_t most = page.least;; most *= 4) {
-      const std::size_t number = Index::put_met(visit, cells, from, page.data(), most);
-      for (const Row& row : Items<Row>(page.data(), page.data() + number)) {
-        std::uint32_t copy = 0;
-        do {
-          if (!visitor(Id(row.cell), static_cast<Label>(row.label))) return false;
-        } while (++copy < row.count);
+    std::size_t from = 0, most = page.least;
+    std::size_t number = Index::put_first_met(visit, cells, page.data(), most);
+    while (true) {
+      std::uint32_t copy = 0;
+      for (const Row *row = page.data(), *end = row + number; row != end;) {
+        if (!visitor(Id(row->cell), static_cast<Label>(row->label))) return false;
+        if (!detail::next_copy(*row, copy)) ++row;
       }
       if (number < most) return true;
       from += most;
-      page.grow(4 * most);
+      most *= 4;
+      page.grow(most);
+      number = Index::put_met(visit, cells, from, page.data(), most);
     }
   }
 

@@ -13,6 +13,7 @@
 #include <cstring>
 #include <initializer_list>
 #include <iterator>
+#include <memory>
 #include <new>
 #include <optional>
 #include <stdexcept>
@@ -146,7 +147,7 @@ struct LieAsNumbers {
   using Item = std::decay_t<decltype(*std::declval<Iterator>())>;
   static constexpr bool value = (std::is_pointer_v<Iterator> || std::is_same_v<Iterator, typename std::vector<Item>::const_iterator>) &&
                                 std::is_standard_layout_v<Item> && std::has_unique_object_representations_v<Item> &&
-                                sizeof(Item) == sizeof(std::uint64_t) && alignof(Item) == alignof(std::uint64_t);
+                                sizeof(Item) == sizeof(std::uint64_t);
 };
 
 }  // namespace detail
@@ -194,6 +195,8 @@ class Cells {
     data_ = data;
     size_ = size;
   }
+  [[nodiscard]] const std::uint64_t* referred() const noexcept { return data_; }
+  [[nodiscard]] std::size_t referred_size() const noexcept { return size_; }
 
  private:
   static constexpr std::uint64_t none = 0;
@@ -216,46 +219,62 @@ inline constexpr std::uint64_t end_of_leaves = 0xc000000000000001;
 // and want no memory.
 class Given : public Cells {
  public:
-  using Cells::Cells;
   Given() noexcept = default;
+  Given(const std::uint64_t* data, std::size_t size) noexcept : Cells(data, size) {}
   Given(const Cells& cells) noexcept : Cells(cells.data(), cells.size()) {}
   Given(const std::vector<std::uint64_t>& cells) noexcept : Cells(cells.data(), cells.size()) {}
   Given(std::initializer_list<std::uint64_t> cells) noexcept : Cells(cells.begin(), cells.size()) {}
+  Given(std::initializer_list<Cell> cells) { copy_or_hold(cells, cells.size()); }
   template <class Items, class = std::enable_if_t<HasCells<Items>::value>>
   Given(const Items& cells) {
     const auto first = std::begin(cells);
     const auto size = static_cast<std::size_t>(std::distance(first, std::end(cells)));
     if constexpr (LieAsNumbers<std::decay_t<decltype(first)>>::value) {
-      if (size > 0 && are_numbers(&*first, size)) {
-        refer_to(reinterpret_cast<const std::uint64_t*>(&*first), size);
+      if (size > 0 && are_numbers(std::addressof(*first), size)) {
+        const void* const numbers = std::addressof(*first);
+        refer_to(static_cast<const std::uint64_t*>(numbers), size);
         return;
       }
     }
+    copy_or_hold(cells, size);
+  }
+  Given(const Given&) = delete;
+  Given& operator=(const Given&) = delete;
+
+  // Never a null pointer, even for no cells.
+  [[nodiscard]] const std::uint64_t* data() const noexcept { return referred(); }
+  [[nodiscard]] std::size_t size() const noexcept { return referred_size(); }
+
+  // The first of them, if there is one. (It may be no std::uint64_t of the caller.)
+  [[nodiscard]] std::uint64_t first() const noexcept {
+    std::uint64_t number = 0;
+    std::memcpy(&number, data(), sizeof number);
+    return number;
+  }
+
+  // Whether it is one leaf alone.
+  [[nodiscard]] bool is_one_leaf() const noexcept { return size() == 1 && is_leaf(first()); }
+
+ private:
+  static constexpr std::size_t few = 16;
+
+  // Has numbers of its own. It refers to these too, so that data() and size() are short.
+  template <class Items>
+  [[gnu::noinline]] void copy_or_hold(const Items& cells, std::size_t size) {
     if (size > few) {
       copy(cells);
+      refer_to(Cells::data(), Cells::size());
     } else {
       std::transform(std::begin(cells), std::end(cells), few_, [](const auto& cell) { return Cell(cell).number(); });
       refer_to(few_, size);
     }
   }
-  Given(const Given&) = delete;
-  Given& operator=(const Given&) = delete;
 
-  // Whether it is one leaf alone.
-  [[nodiscard]] bool is_one_leaf() const noexcept {
-    if (size() != 1) return false;
-    // (the cell may be no std::uint64_t of the caller)
-    std::uint64_t number = 0;
-    std::memcpy(&number, data(), sizeof number);
-    return is_leaf(number);
-  }
-
- private:
-  static constexpr std::size_t few = 16;
-
-  // Whether each cell has the bytes of its number. (The compiler sees that S2CellIds have, and leaves the loop out.)
+  // Whether the cells lie where numbers may, and each has the bytes of its number. (S2CellIds are packed: alone they might lie anywhere, and a
+  // vector's are aligned. The compiler sees that they have the bytes, and leaves the loop out.)
   template <class Item>
   [[nodiscard]] static bool are_numbers(const Item* cells, std::size_t size) {
+    if (reinterpret_cast<std::uintptr_t>(cells) % alignof(std::uint64_t) != 0) return false;
     for (std::size_t k = 0; k < size; k++) {
       std::uint64_t number = 0;
       std::memcpy(&number, static_cast<const void*>(cells + k), sizeof number);

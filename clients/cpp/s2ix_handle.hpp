@@ -18,7 +18,7 @@
 
 #if __has_include(<sys/single_threaded.h>)
 #include <sys/single_threaded.h>
-#define S2IX_ONLY_THREAD (__libc_single_threaded != 0)
+#define S2IX_ONLY_THREAD __builtin_expect(__libc_single_threaded != 0, true)
 #else
 #define S2IX_ONLY_THREAD false
 #endif
@@ -192,36 +192,33 @@ class Handle {
   // A visit of the store by several calls, which lasts as long as this lives. All see one state.
   class Visit {
    public:
-    explicit Visit(const Handle& handle) noexcept
-        : handle_(handle), own_(S2IX_ONLY_THREAD ? Taken<Reader>() : handle.own_reader(Use::visited)) {
-      if (!own_) add(1);
+    explicit Visit(const Handle& handle) noexcept : handle_(handle) {
+      if (S2IX_ONLY_THREAD) {
+        handle.add_visits_alone(1);
+      } else {
+        own_ = handle.begin_visit();
+      }
     }
     Visit(const Visit&) = delete;
     Visit& operator=(const Visit&) = delete;
     ~Visit() {
-      if (!own_) add(-1);
+      if (S2IX_ONLY_THREAD && own_ == nullptr) {
+        handle_.add_visits_alone(-1);
+      } else {
+        handle_.end_visit(own_);
+      }
     }
 
     // Makes a call that reads what is held.
     template <class Call>
     auto ask(Call call) const {
-      // (the state moves only if the store is closed)
-      const bool is_own = own_ && own_->item.shows(handle_.shown());
-      const Turn turn(is_own ? nullptr : &handle_);
-      return call(is_own ? own_->item.copy() : &handle_.handle_);
+      const AskedInVisit asked(handle_, own_);
+      return call(asked.handle());
     }
 
    private:
-    void add(std::ptrdiff_t visits) noexcept {
-      if (S2IX_ONLY_THREAD) {
-        handle_.visits_.store(handle_.visits_.load(std::memory_order_relaxed) + visits, std::memory_order_relaxed);
-      } else {
-        handle_.visits_ += visits;
-      }
-    }
-
     const Handle& handle_;
-    const Taken<Reader> own_;
+    Slot<Reader>* own_ = nullptr;
   };
 
   // The handle itself, without the lock: no other call may run meanwhile, and none has run before.
@@ -235,22 +232,6 @@ class Handle {
   }
 
  private:
-  // A turn with the store itself for what is asked of a handle, if there is one, which lasts as long as this lives.
-  class Turn {
-   public:
-    explicit Turn(const Handle* handle) : handle_(S2IX_ONLY_THREAD ? nullptr : handle) {
-      if (handle_ != nullptr) handle_->take_turn();
-    }
-    Turn(const Turn&) = delete;
-    Turn& operator=(const Turn&) = delete;
-    ~Turn() {
-      if (handle_ != nullptr) handle_->turns_.unlock();
-    }
-
-   private:
-    const Handle* handle_;
-  };
-
   // What is asked, as long as this lives: the thread's own copy if that shows what is held, and else the store itself in turn.
   class Asked {
    public:
@@ -259,7 +240,7 @@ class Handle {
     }
     Asked(const Asked&) = delete;
     Asked& operator=(const Asked&) = delete;
-    ~Asked() {
+    [[gnu::always_inline]] ~Asked() {
       if (is_shared_) handle_.give_back(own_);
     }
 
@@ -270,6 +251,32 @@ class Handle {
     const Handle& handle_;
     const bool is_shared_;
     Slot<Reader>* own_ = nullptr;
+  };
+
+  // The same in a visit: its own copy, unless the store was closed meanwhile.
+  class AskedInVisit {
+   public:
+    AskedInVisit(const Handle& handle, Slot<Reader>* own) : handle_(handle) {
+      // (the state moves only if the store is closed)
+      if (own != nullptr && own->item.shows(handle.shown())) {
+        own_ = own;
+      } else if (!S2IX_ONLY_THREAD) {
+        handle.take_turn();
+        has_turn_ = true;
+      }
+    }
+    AskedInVisit(const AskedInVisit&) = delete;
+    AskedInVisit& operator=(const AskedInVisit&) = delete;
+    ~AskedInVisit() {
+      if (has_turn_) handle_.turns_.unlock();
+    }
+
+    [[nodiscard]] ::s2ix_handle* handle() const noexcept { return own_ == nullptr ? &handle_.handle_ : own_->item.copy(); }
+
+   private:
+    const Handle& handle_;
+    Slot<Reader>* own_ = nullptr;
+    bool has_turn_ = false;
   };
 
   // The state that an edit leads to. While this lives, state_ is odd.
@@ -314,14 +321,15 @@ class Handle {
     return {};
   }
 
+  // (What follows are calls, so that what one thread alone does is short.)
+
   // Waits for the store itself, to ask it.
-  void take_turn() const {
+  [[gnu::noinline]] void take_turn() const {
     const bool is_free = turns_.try_lock();
     if (!is_free || turns_.is_awaited()) share(is_free);
   }
 
   // The slot of the thread's reader, if its copy shows what is held; else none, and the thread has the store itself. Give back either.
-  // (These are calls, so that what one thread alone does is short.)
   [[gnu::noinline]] Slot<Reader>* own_or_turn() const {
     Slot<Reader>* const own = own_reader(Use::asked).release();
     if (own == nullptr) take_turn();
@@ -329,6 +337,21 @@ class Handle {
   }
   [[gnu::noinline]] void give_back(Slot<Reader>* own) const noexcept {
     own == nullptr ? turns_.unlock() : GiveBack()(own);
+  }
+
+  // Begins a visit by the slot of the thread's reader, if its copy shows what is held, or else by none. End either.
+  [[gnu::noinline]] Slot<Reader>* begin_visit() const noexcept {
+    Slot<Reader>* const own = own_reader(Use::visited).release();
+    if (own == nullptr) visits_++;
+    return own;
+  }
+  [[gnu::noinline]] void end_visit(Slot<Reader>* own) const noexcept {
+    own == nullptr ? static_cast<void>(visits_--) : GiveBack()(own);
+  }
+
+  // Counts a visit while the process has one thread.
+  void add_visits_alone(std::ptrdiff_t visits) const noexcept {
+    visits_.store(visits_.load(std::memory_order_relaxed) + visits, std::memory_order_relaxed);
   }
 
   // Waits for the lock if the thread doesn't have it yet. Threads have lost time, so there may be a copy for what this one asks next.

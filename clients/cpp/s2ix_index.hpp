@@ -720,24 +720,28 @@ class Index {
     detail::check(status, [&](std::uint32_t why) { return detail::wrong_target(why, targets, place); });
   }
 
-  // Puts a page of what meet gives in a visit, from a place on, into some room, and returns how many pairs that is: less than `room` only if
-  // the list ends there.
-  static std::size_t put_met(const detail::Handle::Visit& visit, const detail::Given& cells, std::size_t from, Row* rows, std::size_t room) {
+  // Puts the first page of what meet gives in a visit into some room, and returns how many pairs that is: less than `room` only if the list ends
+  // there.
+  static std::size_t put_first_met(const detail::Handle::Visit& visit, const detail::Given& cells, Row* rows, std::size_t room) {
+    if (!cells.is_one_leaf()) return put_met(visit, cells, 0, rows, room);
+    // (a leaf has a quicker call, which puts the same pairs in the same order)
     std::size_t number = 0;
-    const std::uint32_t status = visit.ask([&](::s2ix_handle* handle) {
-      // (a leaf has a quicker call, which puts the same pairs in the same order)
-      if (from == 0 && cells.is_one_leaf()) {
-        const std::uint32_t found = s2ix_at(handle, *cells.data(), rows, room, &number);
-        if (found != S2IX_NO_ROOM) return found;
-      }
-      return s2ix_meet_from(handle, cells.data(), cells.size(), from, rows, room, &number);
-    });
+    const std::uint32_t status = visit.ask([&](::s2ix_handle* handle) { return s2ix_at(handle, cells.first(), rows, room, &number); });
+    return status == S2IX_DONE ? number : put_met(visit, cells, 0, rows, room);
+  }
+
+  // The same for the page from a place on.
+  [[gnu::noinline]] static std::size_t put_met(const detail::Handle::Visit& visit, const detail::Given& cells, std::size_t from, Row* rows,
+                                               std::size_t room) {
+    std::size_t number = 0;
+    const std::uint32_t status = visit.ask(
+        [&](::s2ix_handle* handle) { return s2ix_meet_from(handle, cells.data(), cells.size(), from, rows, room, &number); });
     detail::check(status, [&](std::uint32_t why) { return detail::wrong_in(why, cells); });
     return number;
   }
 
   // Puts what labels gives into a page, and returns how many labels that is.
-  std::size_t put_labels(const Cells& cells, detail::Page<std::uint32_t>& page) const {
+  std::size_t put_labels(const detail::Given& cells, detail::Page<std::uint32_t>& page) const {
     std::size_t number = 0;
     const std::uint32_t status = handle_.ask([&](::s2ix_handle* handle) {
       const auto call = [&] { return s2ix_labels(handle, cells.data(), cells.size(), page.data(), page.size(), &number); };

@@ -14,20 +14,69 @@ namespace s2ix {
 
 namespace detail {
 
-// Room in which a query puts what it finds. A thread keeps it for its next query: the library wants initialised room, and so it is initialised
-// once. A query within another, as in a visit, has room of its own.
-template <class Item>
-class Page {
+// Room that a thread keeps for what its next query finds, until the thread ends: the library wants initialised room, and so it is initialised
+// once. A query has it as long as it runs, and meanwhile another query, as in a visit, has room of its own. At most `most` items are kept, so
+// that one long answer doesn't hold memory for good.
+template <class Item, std::size_t most>
+class Room {
  public:
-  Page() {
+  Room() noexcept = default;
+  Room(Room&& other) noexcept { swap(other); }
+  Room& operator=(Room&& other) noexcept {
+    Room taken(std::move(other));
+    swap(taken);
+    return *this;
+  }
+  ~Room() {
+    if (items_ != nullptr) give_back();
+  }
+
+  [[nodiscard]] Item* data() const noexcept { return items_; }
+  [[nodiscard]] std::size_t size() const noexcept { return size_; }
+
+  // Takes what the thread keeps, or new room for `least` items: if this has none yet.
+  void take(std::size_t least) {
     Kept& here = kept();
     size_ = here.size;
     items_ = std::exchange(here.items, nullptr);
-    if (items_ == nullptr) grow(least);
+    if (items_ == nullptr) renew(least);
   }
-  Page(const Page&) = delete;
-  Page& operator=(const Page&) = delete;
-  ~Page() {
+
+  // Has room for so many items. What it held is lost.
+  void renew(std::size_t size) {
+    delete[] std::exchange(items_, nullptr);
+    size_ = 0;
+    items_ = made(size);
+    size_ = size;
+  }
+
+ private:
+  // What a thread keeps. It has no destructor, so that a destructor which asks later still finds it.
+  struct Kept {
+    Item* items;
+    std::size_t size, most_kept;
+  };
+  // (room may be given back on another thread than it was made on, and a thread keeps none that it wouldn't free)
+  struct End {
+    End() { kept().most_kept = most; }
+    ~End() {
+      delete[] std::exchange(kept().items, nullptr);
+      kept().most_kept = 0;
+    }
+  };
+
+  static Kept& kept() noexcept {
+    static thread_local Kept kept{nullptr, 0, 0};
+    return kept;
+  }
+
+  [[gnu::noinline]] static Item* made(std::size_t size) {
+    static thread_local const End end{};
+    (void)&end;
+    return new Item[size]();
+  }
+
+  void give_back() noexcept {
     Kept& here = kept();
     if (here.items == nullptr && size_ <= here.most_kept) {
       here.items = items_;
@@ -37,106 +86,102 @@ class Page {
     }
   }
 
-  [[nodiscard]] Item* data() noexcept { return items_; }
-  [[nodiscard]] std::size_t size() const noexcept { return size_; }
-
-  // Has room for so many items at least. If there was less, what it held is lost.
-  void grow(std::size_t size) {
-    if (size > size_ || items_ == nullptr) renew(size);
+  void swap(Room& other) noexcept {
+    std::swap(items_, other.items_);
+    std::swap(size_, other.size_);
   }
 
+  Item* items_ = nullptr;
+  std::size_t size_ = 0;
+};
+
+// Room in which a visit, or a query for labels, puts what it finds.
+template <class Item>
+class Page {
+ public:
   // How much room there is at first.
   static constexpr std::size_t least = 1024;
 
+  Page() { room_.take(least); }
+
+  [[nodiscard]] Item* data() const noexcept { return room_.data(); }
+  [[nodiscard]] std::size_t size() const noexcept { return room_.size(); }
+
+  // Has room for so many items at least. If there was less, what it held is lost.
+  void grow(std::size_t size) {
+    if (size > room_.size()) room_.renew(size);
+  }
+
  private:
-  // What a thread keeps, until its end. It has no destructor, so that a destructor which asks later still finds it. At most so many items are
-  // kept, so that one long answer doesn't hold memory for good.
-  struct Kept {
-    Item* items;
-    std::size_t size, most_kept;
-  };
-  struct End {
-    ~End() {
-      delete[] std::exchange(kept().items, nullptr);
-      kept().most_kept = 0;
-    }
-  };
-
-  static Kept& kept() noexcept {
-    static thread_local Kept kept{nullptr, 0, 4 * least};
-    return kept;
-  }
-
-  [[gnu::noinline]] void renew(std::size_t size) {
-    static thread_local const End end{};
-    (void)&end;
-    delete[] std::exchange(items_, nullptr);
-    size_ = 0;
-    items_ = new Item[size]();
-    size_ = size;
-  }
-
-  std::size_t size_ = 0;
-  Item* items_ = nullptr;
+  Room<Item, 4 * least> room_;
 };
 
-// Rows that an object keeps and goes along: few of them lie in it. What was moved from has none.
-class FewRows {
+// Rows that an iterator has found and goes along. What was moved from has none.
+class FoundRows {
  public:
-  FewRows() noexcept = default;
-  FewRows(const FewRows& other) : more_(other.more_) { stand_as(other, other.first()); }
-  FewRows(FewRows&& other) noexcept { *this = std::move(other); }
-  FewRows& operator=(const FewRows& other) { return *this = FewRows(other); }
-  FewRows& operator=(FewRows&& other) noexcept {
-    if (this != &other) {
-      const ::s2ix_row* const first = other.first();
-      more_ = std::exchange(other.more_, {});
-      stand_as(other, first);
-      other.clear();
-    }
+  FoundRows() noexcept = default;
+  FoundRows(const FoundRows& other) {
+    const auto left = static_cast<std::size_t>(other.end_ - other.at_);
+    if (left == 0) return;
+    room_.renew(std::max(left, least));
+    std::copy(other.at_, other.end_, room_.data());
+    go_along(left);
+  }
+  FoundRows(FoundRows&& other) noexcept { swap(other); }
+  FoundRows& operator=(const FoundRows& other) { return *this = FoundRows(other); }
+  FoundRows& operator=(FoundRows&& other) noexcept {
+    FoundRows taken(std::move(other));
+    swap(taken);
     return *this;
   }
-  ~FewRows() = default;
+  ~FoundRows() = default;
 
   // Whether it has gone along all rows; if not, the row at which it stands.
   [[nodiscard]] bool done() const noexcept { return at_ == end_; }
   [[nodiscard]] const ::s2ix_row* operator->() const noexcept { return at_; }
+  [[nodiscard]] const ::s2ix_row& operator*() const noexcept { return *at_; }
   void next() noexcept { ++at_; }
 
-  void clear() noexcept { at_ = end_ = first(); }
+  void clear() noexcept { at_ = end_; }
 
   // Puts the list of a call in place of the rows, and returns the status of the call. If it is refused, there are no rows.
   template <class Call>
   std::uint32_t fill(Call call) {
     clear();
+    if (room_.data() == nullptr) room_.take(least);
     std::size_t number = 0;
-    std::uint32_t status = more_.empty() ? call(few_, few, &number) : call(more_.data(), more_.size(), &number);
+    std::uint32_t status = call(room_.data(), room_.size(), &number);
     if (status == S2IX_NO_ROOM) {
-      more_.resize(number);
-      status = call(more_.data(), more_.size(), &number);
+      clear_for(number);
+      status = call(room_.data(), room_.size(), &number);
     }
-    clear();
-    if (status == S2IX_DONE) end_ += number;
+    if (status == S2IX_DONE) go_along(number);
     return status;
   }
 
  private:
-  static constexpr std::size_t few = 16;
+  // How much room there is at first: a point has few rows.
+  static constexpr std::size_t least = 64;
 
-  [[nodiscard]] const ::s2ix_row* first() const noexcept { return more_.empty() ? few_ : more_.data(); }
-
-  // Stands at the row at which another stood, whose first row was here.
-  void stand_as(const FewRows& other, const ::s2ix_row* its_first) noexcept {
-    std::copy(other.few_, other.few_ + few, few_);
-    at_ = first() + (other.at_ - its_first);
-    end_ = first() + (other.end_ - its_first);
+  void clear_for(std::size_t number) {
+    at_ = end_ = nullptr;
+    room_.renew(number);
   }
 
-  ::s2ix_row few_[few] = {};
-  // (empty, or room for the longest list so far)
-  std::vector<::s2ix_row> more_;
-  const ::s2ix_row* at_ = few_;
-  const ::s2ix_row* end_ = few_;
+  void go_along(std::size_t number) noexcept {
+    at_ = room_.data();
+    end_ = at_ + number;
+  }
+
+  void swap(FoundRows& other) noexcept {
+    std::swap(room_, other.room_);
+    std::swap(at_, other.at_);
+    std::swap(end_, other.end_);
+  }
+
+  Room<::s2ix_row, 4 * least> room_;
+  const ::s2ix_row* at_ = nullptr;
+  const ::s2ix_row* end_ = nullptr;
 };
 
 // Items that an iterator goes along, page by page. A page lies apart from the iterator and is copied with it; what was moved from has no items.

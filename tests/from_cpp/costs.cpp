@@ -85,8 +85,8 @@ namespace {
 constexpr std::uint64_t kFirst = 0x0400000000000000, kLeaf = 0x0400000000000001, kFace = 0x1000000000000000, kOther = 0x3000000000000000;
 constexpr std::size_t kMany = 20000;
 
-// A class of ids, as S2's.
-struct SomeId {
+// A class of ids, as S2's, which are packed.
+struct [[gnu::packed]] SomeId {
   explicit SomeId(std::uint64_t raw) : raw_(raw) {}
   std::uint64_t id() const { return raw_; }
 
@@ -273,14 +273,19 @@ void AsksOnceAsInS2() {
   EXPECT(cost.asked == 2 && cost.taken > 0 && cost.taken <= 2048 * sizeof(s2ix::Row));
   cost = CostOf([&] { index.GetIntersectingLabels(target, &labels); });
   EXPECT(cost.asked == 1 && labels.size() == 1000);
-  cost = CostOf([&] {
-    s2ix::S2CellIndex::RangeIterator range(&index);
-    range.Seek(kOther + 1);
-    s2ix::S2CellIndex::ContentsIterator contents(&index);
-    contents.StartUnion(range);
-    EXPECT(!contents.done());
-  });
-  EXPECT(cost.asked == 1 && cost.taken == 0);
+  // (an iterator beside another has room of its own too)
+  for (const std::size_t rooms : {2, 1, 1}) {
+    cost = CostOf([&] {
+      s2ix::S2CellIndex::RangeIterator range(&index);
+      range.Seek(kOther + 1);
+      s2ix::S2CellIndex::ContentsIterator contents(&index), second(&index);
+      contents.StartUnion(range);
+      EXPECT(asked == 1 && (taken == 0) == (rooms == 1));
+      second.StartUnion(range);
+      EXPECT(!contents.done() && !second.done());
+    });
+    EXPECT(cost.asked == 2 && cost.taken == rooms * 64 * sizeof(s2ix::Row));
+  }
   cost = CostOf([&] {
     s2ix::S2CellIndex::RangeIterator range(&index);
     range.Seek(kOther + 1);

@@ -41,6 +41,16 @@ struct SomeId {
   Cell raw_;
 };
 
+// A class of ids that may lie anywhere, as S2's.
+struct [[gnu::packed]] PackedId {
+  PackedId() = default;
+  explicit PackedId(Cell raw) : raw_(raw) {}
+  Cell id() const { return raw_; }
+
+ private:
+  Cell raw_ = kLeaf;
+};
+
 Pairs Visited(const Index& index, const Target& target) {
   Pairs pairs;
   EXPECT(index.VisitIntersectingCells(target, [&](Cell cell, int label) { return pairs.emplace_back(cell, label), true; }));
@@ -89,15 +99,28 @@ void LeavesAsTargets() {
   }
 }
 
-// Few ids lie in the call, and many in a vector: the answers are the same.
+// Each pair shares a leaf with some ids of the first cell.
+template <class Ids>
+void AllMeet(const Index& index, const Ids& ids) {
+  int visited = 0;
+  EXPECT(index.VisitIntersectingCells(ids, [&](Cell, int) { return ++visited > 0; }) && visited == index.num_cells());
+  EXPECT(index.GetIntersectingLabels(ids).size() == 30);
+}
+
+// Ids that lie as numbers do are used where they are; of others few lie in the call, and many in a vector. The answers are the same.
 void TargetsOfIds() {
   const Index index = Zones(30);
   for (std::size_t many : {1, 15, 16, 17, 40}) {
-    const std::vector<SomeId> ids(many, SomeId(kFirst));
-    int visited = 0;
-    EXPECT(index.VisitIntersectingCells(ids, [&](Cell, int) { return ++visited > 0; }) && visited == index.num_cells());
-    EXPECT(index.GetIntersectingLabels(ids).size() == 30);
+    AllMeet(index, std::vector<SomeId>(many, SomeId(kFirst)));
+    AllMeet(index, std::vector<PackedId>(many, PackedId(kFirst)));
+    AllMeet(index, std::list<PackedId>(many, PackedId(kFirst)));
   }
+  struct [[gnu::packed]] Apart {
+    char before = 0;
+    PackedId few[3] = {PackedId(kFirst)}, many[17] = {PackedId(kFirst)};
+  } apart;
+  AllMeet(index, apart.few);
+  AllMeet(index, apart.many);
 }
 
 // A set that only what the header needs is known of.
@@ -454,7 +477,7 @@ void CellsAsTheyWere() {
 
 // Contents that don't lie in the iterator itself, and copies of it; and whether pairs lie over a range that was sought.
 void ContentsOfSoughtRanges() {
-  for (int labels : {1, 15, 16, 17, 100, 1000}) {
+  for (int labels : {1, 15, 16, 17, 64, 100, 1000}) {
     const Index index = Zones(labels);
     Index::RangeIterator range(&index), other(&index);
     range.Seek(kLeaf);
@@ -476,13 +499,22 @@ void ContentsOfSoughtRanges() {
   }
 }
 
+// The pairs over a leaf, by iterators.
+Pairs Sought(const Index& index) {
+  Index::RangeIterator range(&index);
+  range.Seek(kLeaf);
+  Index::ContentsIterator contents(&index);
+  contents.StartUnion(range);
+  return Rest(contents);
+}
+
 // Queries once more while the objects of its thread are destroyed.
 struct Last {
   const Index* index = nullptr;
   std::size_t* visited = nullptr;
 
   ~Last() {
-    if (index != nullptr) *visited = Visited(*index, {kFace}).size() + index->GetIntersectingLabels(Target{kFace}).size();
+    if (index != nullptr) *visited = Visited(*index, {kFace}).size() + index->GetIntersectingLabels(Target{kFace}).size() + Sought(*index).size();
   }
 };
 
@@ -494,9 +526,26 @@ void AsAThreadEnds() {
   std::thread([&] {
     last.index = &index;
     last.visited = &visited;
-    EXPECT(Visited(index, {kFace}).size() == 80 && index.GetIntersectingLabels(Target{kFace}).size() == 70);
+    EXPECT(Visited(index, {kFace}).size() == 80 && index.GetIntersectingLabels(Target{kFace}).size() == 70 && Sought(index).size() == 80);
   }).join();
-  EXPECT(visited == 150);
+  EXPECT(visited == 230);
+}
+
+// An iterator goes on, and ends, on another thread than it was made on.
+void OnAnotherThread() {
+  const Index index = Zones(70);
+  Index::RangeIterator range(&index);
+  range.Seek(kLeaf);
+  for (int turn = 0; turn < 2; turn++) {
+    Index::ContentsIterator contents(&index);
+    contents.StartUnion(range);
+    std::thread([contents = std::move(contents), &index]() mutable {
+      EXPECT(Rest(contents) == Visited(index, {kLeaf}));
+      Index::ContentsIterator last(std::move(contents));
+      EXPECT(contents.done() && last.done());
+    }).join();
+    EXPECT(Sought(index).size() == 80);
+  }
 }
 
 }  // namespace
@@ -516,6 +565,7 @@ int main() {
   CellsAsTheyWere();
   ContentsOfSoughtRanges();
   AsAThreadEnds();
+  OnAnotherThread();
   std::cout << passed << " passed, " << failed << " failed\n";
   return failed == 0 ? 0 : 1;
 }
