@@ -107,7 +107,7 @@ inline void check_stale(std::uint32_t status) {
 //   a ContentsIterator states no order            gives the innermost cell first, the labels of one cell rising
 //   GetIntersectingLabels gives absl's set        a LabelSet, which rises and has its calls, or any set that is passed
 //
-// A thread that visits, asks for labels or goes along a ContentsIterator keeps up to 84 kB of room for its next query, until it ends.
+// A thread that visits, asks for labels or goes along ranges and their pairs keeps up to 96 kB of room for its next query, until it ends.
 //
 // index().undo() takes back one Build(). If a limit would be passed or the journal is full (S2IX_JOURNAL_FULL), Build() and queries throw:
 // the index stays as it was, and the adds wait for the next Build(). Forget() makes room in the journal. Only Clear() drops adds; only
@@ -305,13 +305,15 @@ class BasicS2CellIndex {
         : pages_(std::move(other.pages_)),
           index_(other.index_),
           at_(std::exchange(other.at_, At())),
-          goes_on_(std::exchange(other.goes_on_, false)) {}
+          goes_on_(std::exchange(other.goes_on_, false)),
+          page_(other.page_) {}
     RangeIterator& operator=(const RangeIterator& other) { return *this = RangeIterator(other); }
     RangeIterator& operator=(RangeIterator&& other) noexcept {
       pages_ = std::move(other.pages_);
       index_ = other.index_;
       at_ = std::exchange(other.at_, At());
       goes_on_ = std::exchange(other.goes_on_, false);
+      page_ = other.page_;
       return *this;
     }
     ~RangeIterator() = default;
@@ -340,10 +342,10 @@ class BasicS2CellIndex {
     void Finish() { go([](::s2ix_handle*, std::uint64_t, std::size_t*) { return std::uint32_t{S2IX_NO_RANGE}; }); }
 
     void Next() {
-      if (pages_.is_at_end()) {
+      if (pages_.done()) {
         if (done()) return;
-        if (goes_on_) pages_.turn_to(next_page(index_, at_.place + 1, at_.state, pages_.made()));
-        if (pages_.is_at_end()) return go_on();
+        if (goes_on_) read_page();
+        if (pages_.done()) return go_on();
       }
       at_.place++;
       at_.start = pages_->start;
@@ -470,7 +472,7 @@ class BasicS2CellIndex {
     }
 
     void leave_pages() {
-      pages_.drop();
+      pages_.clear();
       goes_on_ = false;
     }
 
@@ -480,36 +482,39 @@ class BasicS2CellIndex {
       stand(read_at(index_, at.place + 1, at.state).at);
       at_.known = Known::all;
       goes_on_ = !done();
+      page_ = first_page;
     }
 
-    struct Page {
-      std::vector<::s2ix_leaf_range> items;
-      std::size_t size = 0;
-    };
+    // Reads a page of the ranges after the one at which it stands. The next page is twice as long, up to the longest.
+    [[gnu::always_inline]] void read_page() {
+      pages_.fill_page(page_, [this](::s2ix_leaf_range* to, std::size_t room) { return put_page(index_, at_.place + 1, at_.state, to, room); });
+      page_ = std::min(2 * page_, longest_page);
+    }
 
-    static constexpr std::size_t first_page = 16, longest_page = 512;
-
-    // Reads a page of the ranges from a place on, twice as long as the last one up to the longest, and returns how many there are in it.
-    [[gnu::noinline]] static std::size_t next_page(const BasicS2CellIndex* index, std::size_t from, std::uint64_t state, Page* page) {
-      const std::size_t room = page->size == 0 ? first_page : std::min(2 * page->size, longest_page);
-      if (page->items.size() < room) page->items.resize(room);
-      page->size = 0;
+    // Puts the ranges from a place of a state on into some room, and returns how many that is.
+    [[gnu::noinline]] static std::size_t put_page(const BasicS2CellIndex* index, std::size_t from, std::uint64_t state, ::s2ix_leaf_range* to,
+                                                  std::size_t room) {
+      std::size_t number = 0;
       const std::uint32_t status = index->index_.handle_.ask_in_state([&](::s2ix_handle* handle, std::uint64_t now) {
         const std::uint32_t unmoved = detail::unmoved(handle, now, state);
-        return unmoved == S2IX_DONE ? s2ix_ranges(handle, from, page->items.data(), room, &page->size) : unmoved;
+        return unmoved == S2IX_DONE ? s2ix_ranges(handle, from, to, room, &number) : unmoved;
       });
       detail::check_stale(status);
       detail::check(status);
-      return page->size;
+      return number;
     }
 
+    // (a page takes a search, and many walks are short)
+    static constexpr std::size_t first_page = 4, longest_page = 512;
+
     // (first, so that nothing is assigned if memory for a copy of it is refused)
-    detail::Pages<Page> pages_;
+    detail::Found<::s2ix_leaf_range, 16, longest_page> pages_;
     const BasicS2CellIndex* index_;
     // (what is known grows when more is asked for)
     mutable At at_;
-    // Whether it has gone on by Next, so that the ranges after it are read in pages.
+    // Whether it has gone on by Next, so that the ranges after it are read in pages, and how long the next page is.
     bool goes_on_ = false;
+    std::size_t page_ = first_page;
   };
 
   // Goes along the ranges over which some pair lies.
@@ -664,7 +669,8 @@ class BasicS2CellIndex {
       return rows_.fill([&](Row* to, std::size_t room, std::size_t* number) { return s2ix_contents(handle, at.place, told.from, to, room, number); });
     }
 
-    detail::FoundRows rows_;
+    // (a point has few pairs)
+    detail::Found<Row, 64, 256> rows_;
     const BasicS2CellIndex* index_ = nullptr;
     std::uint32_t copy_ = 0;
     Told told_;

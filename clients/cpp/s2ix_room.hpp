@@ -27,8 +27,9 @@ class Room {
     swap(taken);
     return *this;
   }
+  // (short, so that the compiler puts it even where exceptions pass: what gets no pointer to an iterator can keep it in registers)
   ~Room() {
-    if (items_ != nullptr) give_back();
+    if (items_ != nullptr) give_back_by_call(items_, size_);
   }
 
   [[nodiscard]] Item* data() const noexcept { return items_; }
@@ -41,6 +42,9 @@ class Room {
     items_ = std::exchange(here.items, nullptr);
     if (items_ == nullptr) renew(least);
   }
+
+  // Gives it back.
+  void end() noexcept { give_back(std::exchange(items_, nullptr), size_); }
 
   // Has room for so many items. What it held is lost.
   void renew(std::size_t size) {
@@ -76,15 +80,16 @@ class Room {
     return new Item[size]();
   }
 
-  void give_back() noexcept {
+  static void give_back(Item* items, std::size_t size) noexcept {
     Kept& here = kept();
-    if (here.items == nullptr && size_ <= here.most_kept) {
-      here.items = items_;
-      here.size = size_;
+    if (here.items == nullptr && size <= here.most_kept) {
+      here.items = items;
+      here.size = size;
     } else {
-      delete[] items_;
+      delete[] items;
     }
   }
+  [[gnu::noinline]] static void give_back_by_call(Item* items, std::size_t size) noexcept { give_back(items, size); }
 
   void swap(Room& other) noexcept {
     std::swap(items_, other.items_);
@@ -103,6 +108,9 @@ class Page {
   static constexpr std::size_t least = 1024;
 
   Page() { room_.take(least); }
+  Page(const Page&) = delete;
+  Page& operator=(const Page&) = delete;
+  ~Page() { room_.end(); }
 
   [[nodiscard]] Item* data() const noexcept { return room_.data(); }
   [[nodiscard]] std::size_t size() const noexcept { return room_.size(); }
@@ -116,56 +124,66 @@ class Page {
   Room<Item, 4 * least> room_;
 };
 
-// Rows that an iterator has found and goes along. What was moved from has none.
-class FoundRows {
+// Items that an iterator has read into room of its thread, and goes along. There is room for `least` at first. What was moved from has none.
+template <class Item, std::size_t least, std::size_t most>
+class Found {
  public:
-  FoundRows() noexcept = default;
-  FoundRows(const FoundRows& other) {
+  Found() noexcept = default;
+  Found(const Found& other) {
     const auto left = static_cast<std::size_t>(other.end_ - other.at_);
     if (left == 0) return;
     room_.renew(std::max(left, least));
     std::copy(other.at_, other.end_, room_.data());
     go_along(left);
   }
-  FoundRows(FoundRows&& other) noexcept { swap(other); }
-  FoundRows& operator=(const FoundRows& other) { return *this = FoundRows(other); }
-  FoundRows& operator=(FoundRows&& other) noexcept {
-    FoundRows taken(std::move(other));
+  Found(Found&& other) noexcept { swap(other); }
+  // (not one that takes its object by value: what copies its owner would be noexcept, though the copy may throw)
+  Found& operator=(const Found& other) { return *this = Found(other); }
+  Found& operator=(Found&& other) noexcept {
+    Found taken(std::move(other));
     swap(taken);
     return *this;
   }
-  ~FoundRows() = default;
+  ~Found() = default;
 
-  // Whether it has gone along all rows; if not, the row at which it stands.
+  // Whether it has gone along all items; if not, the item at which it stands.
   [[nodiscard]] bool done() const noexcept { return at_ == end_; }
-  [[nodiscard]] const ::s2ix_row* operator->() const noexcept { return at_; }
-  [[nodiscard]] const ::s2ix_row& operator*() const noexcept { return *at_; }
+  [[nodiscard]] const Item* operator->() const noexcept { return at_; }
+  [[nodiscard]] const Item& operator*() const noexcept { return *at_; }
   void next() noexcept { ++at_; }
 
+  // Leaves out what is left.
   void clear() noexcept { at_ = end_; }
 
-  // Puts the list of a call in place of the rows, and returns the status of the call. If it is refused, there are no rows.
+  // Puts the list of a call in place of the items, and returns the status of the call. If it is refused, there are no items.
   template <class Call>
   std::uint32_t fill(Call call) {
-    clear();
-    if (room_.data() == nullptr) room_.take(least);
+    make_room(0);
     std::size_t number = 0;
     std::uint32_t status = call(room_.data(), room_.size(), &number);
     if (status == S2IX_NO_ROOM) {
-      clear_for(number);
+      make_room(number);
       status = call(room_.data(), room_.size(), &number);
     }
     if (status == S2IX_DONE) go_along(number);
     return status;
   }
 
- private:
-  // How much room there is at first: a point has few rows.
-  static constexpr std::size_t least = 64;
+  // Puts so many items at most in place of the items: as many as a call says that it has put.
+  template <class Call>
+  void fill_page(std::size_t size, Call call) {
+    make_room(size);
+    go_along(call(room_.data(), size));
+  }
 
-  void clear_for(std::size_t number) {
+ private:
+  // Has room for so many items, and for `least`. There are no items then.
+  void make_room(std::size_t size) {
+    clear();
+    if (room_.data() == nullptr) room_.take(least);
+    if (room_.size() >= size) return;
     at_ = end_ = nullptr;
-    room_.renew(number);
+    room_.renew(size);
   }
 
   void go_along(std::size_t number) noexcept {
@@ -173,15 +191,15 @@ class FoundRows {
     end_ = at_ + number;
   }
 
-  void swap(FoundRows& other) noexcept {
+  void swap(Found& other) noexcept {
     std::swap(room_, other.room_);
     std::swap(at_, other.at_);
     std::swap(end_, other.end_);
   }
 
-  Room<::s2ix_row, 4 * least> room_;
-  const ::s2ix_row* at_ = nullptr;
-  const ::s2ix_row* end_ = nullptr;
+  Room<Item, most> room_;
+  const Item* at_ = nullptr;
+  const Item* end_ = nullptr;
 };
 
 // Items that an iterator goes along, page by page. A page lies apart from the iterator and is copied with it; what was moved from has no items.
@@ -227,9 +245,6 @@ class Pages {
     at_ = page_->items.data();
     end_ = at_ + size;
   }
-
-  // Leaves out what is left of the page.
-  void drop() noexcept { at_ = end_ = nullptr; }
 
  private:
   [[gnu::noinline]] static void free(Page* page) noexcept { delete page; }
