@@ -363,11 +363,8 @@ class BasicS2CellIndex {
     // Goes to the range that has a leaf. The range is looked for only when more than its pairs is asked for, among the ranges of that moment.
     void Seek(Id target) {
       const std::uint64_t leaf = raw(target);
-      const std::uint32_t status = index_->index_.handle_.ask([&](::s2ix_handle* handle) {
-        if (!handle->is_open) return std::uint32_t{S2IX_CLOSED};
-        return std::uint32_t{detail::is_leaf(leaf) ? S2IX_DONE : S2IX_NO_CELL};
-      });
-      detail::check(status, [&](std::uint32_t why) { return detail::wrong_leaf(why, leaf); });
+      if (!index_->index_.is_open()) detail::check(S2IX_CLOSED);
+      if (!detail::is_leaf(leaf)) detail::refuse(S2IX_NO_CELL, detail::wrong_leaf(S2IX_NO_CELL, leaf));
       at_.start = leaf;
       at_.known = Known::leaf;
       leave_pages();

@@ -120,10 +120,11 @@ class Reader {
 class Handle {
  public:
   Handle() noexcept = default;
-  Handle(Handle&& other) noexcept : handle_(other.taken_out()) {}
+  Handle(Handle&& other) noexcept : handle_(other.taken_out()) { is_closed_ = !handle_.is_open; }
   Handle& operator=(Handle&& other) noexcept {
     if (this != &other) {
       ::s2ix_handle before = std::exchange(handle_, other.taken_out());
+      is_closed_ = !handle_.is_open;
       s2ix_close(&before);
       delete readers_.exchange(nullptr);
       state_ += 2;
@@ -178,7 +179,14 @@ class Handle {
     Next next(state_);
     next.move();
     s2ix_close(&handle_);
+    is_closed_ = true;
     drop_copies();
+  }
+
+  // Whether there is a store. O(1), without a turn unless calls of others may close it by the handle.
+  [[nodiscard]] bool is_open() const noexcept {
+    if (has_readers_) return !is_closed_.load(std::memory_order_acquire);
+    return ask([](::s2ix_handle* handle) { return handle->is_open; });
   }
 
   // Throws during a visit.
@@ -400,6 +408,7 @@ class Handle {
   // The handle, which leaves this one closed.
   ::s2ix_handle taken_out() noexcept {
     delete readers_.exchange(nullptr);
+    is_closed_ = true;
     return std::exchange(handle_, ::s2ix_handle{});
   }
 
@@ -407,6 +416,8 @@ class Handle {
   std::atomic<std::uint64_t> state_{0};
   mutable std::atomic<Slots<Reader>*> readers_{nullptr};
   bool has_readers_ = true;
+  // (before a store is opened it says nothing)
+  std::atomic<bool> is_closed_{false};
   // (what each question reads lies apart from what some write)
   [[maybe_unused]] char written_is_apart_[apart] = {};
   mutable Turns turns_;

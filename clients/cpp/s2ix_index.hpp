@@ -104,9 +104,7 @@ class Index {
   // Closes the index and frees all that its store had; a closed one stays closed. O(n).
   void close() noexcept { handle_.close(); }
 
-  [[nodiscard]] bool is_open() const noexcept {
-    return handle_.ask([](::s2ix_handle* handle) { return handle->is_open; });
-  }
+  [[nodiscard]] bool is_open() const noexcept { return handle_.is_open(); }
 
   // The handle, to pass to calls of s2ix.h. Neither this nor those take the lock: no other call on the index may run meanwhile. Nothing
   // tells the index what they change, so from now on its own calls take turns.

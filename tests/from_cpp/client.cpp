@@ -63,6 +63,14 @@ void Moved() {
   third.close();
   third.close();
   EXPECT(!third.is_open());
+  third = s2ix::Index();
+  EXPECT(third.is_open() && third.len() == 0);
+  // (a call of s2ix.h closes it too, and what is moved from it then)
+  s2ix_close(third.handle());
+  EXPECT(!third.is_open());
+  first = std::move(third);
+  const s2ix::Index fourth(std::move(first));
+  EXPECT(!first.is_open() && !third.is_open() && !fourth.is_open());
 }
 
 void Closed() {
