@@ -1,5 +1,5 @@
 //! What the program's words ask for.
-use s2ix_cli::{Command, WordsFault, command_of, not_utf8};
+use s2ix_cli_words::{Command, WordsFault, command_of, not_utf8};
 use std::alloc::AllocError;
 use std::env;
 use std::env::Env;

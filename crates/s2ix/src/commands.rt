@@ -3,10 +3,9 @@ ghost use Rattle.std.specs.Prelude.{◌≡◌, IfOk};
 ghost use Rattle.s2ix_text.specs.Adapters.{writer_faults};
 
 use s2ix_bag::Limits;
-use s2ix_cli::{
-    Command, RunOptions, Start, check_text, diff_texts, first_fault, load_text, replay_texts,
-    resume_texts, rewind_texts, turns,
-};
+use s2ix_cli_files::{check_text, diff_texts, load_text, replay_texts, resume_texts, rewind_texts};
+use s2ix_cli_run::RunOptions;
+use s2ix_cli_words::{Command, Start, first_fault, turns};
 use s2ix_edit::Store;
 use s2ix_text::{FromRead, RunFault, Sink, ToWrite, read_whole};
 use std::fs::File;
@@ -91,7 +90,13 @@ fn run_over(rt: &HostRuntime, mut store: Store, stop: bool) -> Result<bool, RunF
         stop,
         turns: turns(),
     };
-    let accepted = match s2ix_cli::run(rt.alloc(), &mut source, &mut sink, &mut store, options) {
+    let accepted = match s2ix_cli_run::run(
+        rt.alloc(),
+        &mut source,
+        &mut sink,
+        &mut store,
+        options,
+    ) {
         Ok(end) => Ok(end.refused == 0),
         Err(fault) => Err(fault),
     };

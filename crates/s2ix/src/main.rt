@@ -7,7 +7,7 @@ mod commands;
 
 use asked::asked;
 use commands::run_command;
-use s2ix_cli::{Ending, WordsFault, status};
+use s2ix_cli_words::{Ending, WordsFault, status};
 use s2ix_text::RunFault;
 use std::process::ExitCode;
 

@@ -1,5 +1,5 @@
 -- A script that begins with a dump and ends with a journal.
-use Rattle.std.proofs.Common.{◌≡◌, ℕ, ◌<◌, true, List, [], ◌∷◌, ◌++◌, Some, get_or, reverse, All, refl, sym, ap, ◌∙◌, subst, append-nil, arith}
+use Rattle.std.proofs.Common.{◌≡◌, ℕ, true, List, [], ◌∷◌, ◌++◌, Some, get_or, reverse, sym, ap, ◌∙◌, subst, append-nil, arith}
 use Rattle.std.specs.List.{slice_get}
 use Rattle.std.proofs.lemmas.List.Elements.{All-head, All-tail}
 use Rattle.std.proofs.lemmas.Option.{slice_get-get_or}
@@ -13,12 +13,12 @@ use Rattle.s2ix_cli_files.specs.Answers.{ReplayAnswers, RewindAnswers}
 use Rattle.s2ix_cli_files.specs.Widest.{widest}
 use Rattle.s2ix_cli_files.proofs.Replayed.{done_is_replayed, done_is_rewound}
 use Rattle.s2ix_cli_script.specs.declared.instruction.Instruction.TheVariants as asks
-use Rattle.s2ix_cli.specs.Asking.{AsksFor}
-use Rattle.s2ix_cli.specs.Step.{Step, step_of}
-use Rattle.s2ix_cli.proofs.Asked.{step_asked}
-use Rattle.s2ix_cli.proofs.Kept.{StaysIn, line_stays, stays_put}
+use Rattle.s2ix_cli_run.specs.Asking.{AsksFor}
+use Rattle.s2ix_cli_run.specs.Step.{Step, step_of}
+use Rattle.s2ix_cli_run.proofs.Asked.{step_asked}
+use Rattle.s2ix_cli_run.proofs.Kept.{StaysIn, line_stays, stays_put}
 use Rattle.s2ix_cli.specs.Laws.{JournalLeadsBack, JournalLeadsOn, NoneForgets}
-use Rattle.s2ix_cli.specs.Script.{after, output_of}
+use Rattle.s2ix_cli_run.specs.Script.{after, output_of}
 
 -- lines of which none forgets what was done
 lines_stay : (s : State) (lines : List (List ℕ)) → IsStore s → NoneForgets lines → StaysIn s (after s lines)

@@ -22,26 +22,11 @@
 //! pieces.
 //!
 //! The crates below this one: `s2ix_cli_words` reads the program's words and cuts a line into fields; `s2ix_cli_script` says what a line
-//! asks for; `s2ix_cli_answers` writes what queries find; `s2ix_cli_files` works on whole texts. Here is what
-//! carries lines out: one definition says what a line comes to, as a step, and a run is such steps, one after the other.
+//! asks for; `s2ix_cli_answers` writes what queries find; `s2ix_cli_run` carries lines out; `s2ix_cli_files` works on whole texts.
 #![tactic(auto)]
 
-mod asking;
-mod coming;
-mod held_line;
 pub mod laws;
-mod line;
-mod outcome;
-mod queries;
-mod regions;
-mod run_end;
-mod script;
-mod steps;
 
-pub use asking::is_question;
-pub use line::{run_instruction, run_line};
-pub use outcome::LineOutcome;
-pub use run_end::{RunEnd, RunOptions};
 pub use s2ix_cli_answers::{
     write_contents, write_meeting, write_neighbors, write_no, write_ok, write_path, write_ranges,
     write_square,
@@ -49,6 +34,9 @@ pub use s2ix_cli_answers::{
 pub use s2ix_cli_files::{
     Refusal, TextsError, check_text, diff_texts, dump_fault_name, journal_fault_name, load_text,
     replay_texts, resume_texts, rewind_texts,
+};
+pub use s2ix_cli_run::{
+    LineOutcome, RunEnd, RunOptions, is_question, run, run_instruction, run_line,
 };
 pub use s2ix_cli_script::{
     Instruction, LONGEST_LINE, LineError, LineFault, add_union_named, cell_named, drop_named,
@@ -61,4 +49,3 @@ pub use s2ix_cli_words::{
     not_utf8, program, range_text, status, turns,
 };
 pub use s2ix_text_parts::{RunFault, read_whole};
-pub use script::run;

@@ -1,0 +1,11 @@
+pub mod Asking
+pub mod Coming
+pub mod InTurn
+pub mod Laws
+pub mod Line
+pub mod LineWants
+pub mod Piece
+pub mod Run
+pub mod Script
+pub mod Step
+pub mod Wants
