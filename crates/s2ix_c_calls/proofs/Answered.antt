@@ -8,7 +8,7 @@ use Rattle.s2ix_cli_script.specs.declared.line_fault.LineFault.TheVariants as fa
 use Rattle.s2ix_cli_script.specs.FaultNames.{fault_name}
 use Rattle.s2ix_cli_script.specs.Named.{is_ok_with}
 use Rattle.s2ix_cli_script.specs.Meaning.{asks_on_union, meaning_of}
-use Rattle.s2ix_cli.specs.Step.{step_at, step_of}
+use Rattle.s2ix_cli_run.specs.Step.{step_at, step_of}
 use Rattle.s2ix_c_calls.specs.declared.no_answer.NoAnswer.{NoAnswer}
 use Rattle.s2ix_c_calls.specs.InBuffer.{AnswerWants, Answers}
 

@@ -5,9 +5,9 @@ use Rattle.s2ix_edit_plan.specs.State.{State}
 use Rattle.s2ix_cli_script.specs.declared.instruction.Instruction.{Instruction}
 use Rattle.s2ix_cli_script.specs.declared.line_fault.LineFault.{LineFault}
 use Rattle.s2ix_cli_script.specs.Meaning.{is_on_union, meaning_of}
-use Rattle.s2ix_cli.specs.Asking.{is_question}
-use Rattle.s2ix_cli.specs.Step.{Step, step_at}
-use Rattle.s2ix_cli.specs.LineWants.{InstructionWants}
+use Rattle.s2ix_cli_run.specs.Asking.{is_question}
+use Rattle.s2ix_cli_run.specs.Step.{Step, step_at}
+use Rattle.s2ix_cli_run.specs.LineWants.{InstructionWants}
 use Rattle.s2ix_c_calls.specs.declared.no_answer.NoAnswer.{NoAnswer}
 use Rattle.s2ix_c_calls.specs.declared.no_answer.NoAnswer.TheVariants.{OutOfMemory, NoRoom}
 

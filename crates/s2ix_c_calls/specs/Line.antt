@@ -2,7 +2,7 @@
 use Rattle.std.specs.Prelude.{◌≡◌, ◌≢◌, ◌⊎◌, ℕ, ◌<◌, ◌≤◌, List, length}
 use Rattle.s2ix_edit_plan.specs.State.{State}
 use Rattle.s2ix_cli_script.specs.Meaning.{meaning_of}
-use Rattle.s2ix_cli.specs.Step.{step_of}
+use Rattle.s2ix_cli_run.specs.Step.{step_of}
 use Rattle.s2ix_c_calls.specs.InBuffer.{AnswerWants, IsAtFront, room_for}
 use Rattle.s2ix_c_calls.specs.Status.{done, no_room, out_of_memory}
 

@@ -15,7 +15,7 @@ use Rattle.s2ix_edit_plan.specs.Rows.{rows_change, rows_refusal}
 use Rattle.s2ix_edit_plan.specs.State.{State, change_of, starting_at}
 use Rattle.s2ix_edit.specs.Steps.{after_edit, after_rows, after_undo, after_redo, undo_size, redo_size}
 use Rattle.s2ix_edit.specs.Store.{HasRoom}
-use Rattle.s2ix_cli.specs.LineWants.{EditWants}
+use Rattle.s2ix_cli_run.specs.LineWants.{EditWants}
 use Rattle.s2ix_c_calls.specs.Asked.{AreAllCells, AreCells, AreRight, IsFirstNoCell, IsFirstWrong, LacksUnion, NameHeld}
 use Rattle.s2ix_c_calls.specs.declared.rows.Row.{Row}
 use Rattle.s2ix_c_calls.specs.Status.{done, closed, no_cell, no_label, out_of_memory, nothing_to_undo, nothing_to_redo, edit_status, IsRefusal}

@@ -3,14 +3,14 @@ ghost use Rattle.std.specs.Prelude.{◌≡◌, ◌≢◌, false, true, Err, Ok, 
 ghost use Rattle.s2ix_cli_answers.specs.Answers.{no_line};
 ghost use Rattle.s2ix_cli_script.specs.FaultNames.{fault_name};
 ghost use Rattle.s2ix_cli_script.specs.Meaning.{meaning_of};
-ghost use Rattle.s2ix_cli.specs.Asking.{is_question as asks_question};
-ghost use Rattle.s2ix_cli.specs.Step.{instruction_step, step_of};
+ghost use Rattle.s2ix_cli_run.specs.Asking.{is_question as asks_question};
+ghost use Rattle.s2ix_cli_run.specs.Step.{instruction_step, step_of};
 ghost use Rattle.s2ix_c_calls.specs.InBuffer.{AnswerWants, Answers, IsWithin, Puts, room_at, room_for};
 
 use crate::front::{put_front, put_text};
 use crate::no_answer::NoAnswer;
-use s2ix_cli::{is_question, run_instruction};
 use s2ix_cli_answers::write_no;
+use s2ix_cli_run::{is_question, run_instruction};
 use s2ix_cli_script::{Instruction, LineError, LineFault, meaning};
 use s2ix_edit::Store;
 use s2ix_text_parts::{ArraySink, VecSink};

@@ -5,7 +5,7 @@
 //! caller passes it on and never looks inside.
 //!
 //! [`answer_line`] carries out one line of a script, with its answer in a buffer of the caller. It tests the room of the buffer before the
-//! store takes a step, so a call that is made again with a longer buffer never does an edit twice. `s2ix_cli` says what a line comes
+//! store takes a step, so a call that is made again with a longer buffer never does an edit twice. `s2ix_cli_run` says what a line comes
 //! to, and prints its answer.
 #![tactic(auto)]
 
