@@ -17,7 +17,7 @@ impl LeafHint {
     ghost use Rattle.std.specs.Prelude.{◌≡◌};
     ghost use Rattle.s2ix_table_queries.specs.Hints.{no_hint};
 
-    /// A hint that fits no leaf: as part and as range it names the greatest number that there is, which none of these has. O(1).
+    /// A hint that fits no leaf: its part and its range have the greatest number of their type, and no part and no range has that. O(1).
     pub fn none() -> LeafHint
         ensures { result ≡ no_hint }
     {

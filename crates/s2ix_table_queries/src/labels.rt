@@ -15,8 +15,8 @@ use std::alloc::Global;
 // How many labels a list has room for from its first one on.
 const ROOM: usize = 16;
 
-// In a list of fewer labels than these each next one is looked for.
-const FEW: usize = 32;
+// How many looks for labels there are at first.
+const LOOKS: usize = 192;
 
 // Labels are spread over slots. For each slot, the place in a list at which a label of that slot was put last, in half a word: it is only
 // where to look first.
@@ -41,42 +41,39 @@ pub(crate) fn gather<T: RangeTable>(
     let mut meeting = Meeting::of_cells(&mut meter, cells);
     let mut labels = Vec::new(alloc);
     let mut places = [0; 128];
-    let mut pairs = 0usize;
+    let mut looks = LOOKS;
     while let Some(held) = meeting.advance() {
-        pairs = pairs.wrapping_add(1);
-        let looks = is_worth_a_look(pairs, labels.len());
-        put(held.pair.label, looks, &mut labels, &mut places)?;
+        put(held.pair.label, &mut looks, &mut labels, &mut places)?;
     }
     Ok(labels)
 }
 
-// Whether the next label is worth a look for it in a list that so many pairs have made. It is if the labels of two pairs in three were
-// found there: if fewer are, the processor can't foresee which, and waits for each pair in turn.
-#[inline(always)]
-fn is_worth_a_look(pairs: usize, labels: usize) -> bool {
-    labels < FEW || labels < pairs / 3
-}
-
-// Puts a label after those of a list, unless `looks` is true and it is found at the place that its slot has.
+// Puts a label after those of a list, unless it is found at the place that its slot has. It is looked for while there are `looks` left: a look
+// that finds it gives one more, and one in vain takes three. So none are left if far fewer than three in four find theirs: the processor can't
+// foresee which, and would wait for each pair in turn.
 #[inline(always)]
 fn put(
     label: Label,
-    looks: bool,
+    looks: &mut usize,
     labels: &mut Vec<Label>,
     places: &mut Places,
 ) -> Result<(), OutOfMemory>
     ensures { OnOk result ((other : LabelHeld)
         → Contains labels.new.items other ↔ (Contains labels.old.items other ⊎ (other ≡ label))) }
 {
-    let slot = slot_of(label);
-    let place = places[slot] as usize;
-    if looks && place < labels.len() && labels[place] == label {
-        return Ok(());
+    if *looks > 0 {
+        let slot = slot_of(label);
+        let place = places[slot] as usize;
+        if place < labels.len() && labels[place] == label {
+            *looks = looks.wrapping_add(1);
+            return Ok(());
+        }
+        places[slot] = labels.len().min(LAST_PLACE) as u32;
+        *looks = looks.saturating_sub(3);
     }
     if labels.is_empty() {
         labels.reserve(ROOM)?;
     }
-    places[slot] = labels.len().min(LAST_PLACE) as u32;
     labels.push(label)?;
     Ok(())
 }
