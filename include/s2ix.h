@@ -394,6 +394,20 @@ uint32_t s2ix_export(s2ix_handle *handle, uint8_t *text, size_t room, size_t *nu
    S2IX_OUT_OF_MEMORY. */
 uint32_t s2ix_line(s2ix_handle *handle, const uint8_t *line, size_t len, uint8_t *answer, size_t room, size_t *number);
 
+/* What a line of a script would do. */
+enum s2ix_kind_of_line {
+    S2IX_LINE_NOTHING = 0, /* it is blank, a comment, or refused whatever is held */
+    S2IX_LINE_QUESTION = 1,
+    S2IX_LINE_EDIT = 2,
+    S2IX_LINE_UNDO = 3,
+    S2IX_LINE_REDO = 4,
+    S2IX_LINE_FORGET = 5
+};
+
+/* Tells what a line of a script would do, given without its line feed: *kind is one of S2IX_LINE_NOTHING and so on. It takes no handle. O(m)
+   for m bytes, and O(m log m) if the line has a list of cells. Only such a line wants memory. S2IX_OUT_OF_MEMORY: then *kind is 0. */
+uint32_t s2ix_line_kind(const uint8_t *line, size_t len, uint8_t *kind);
+
 /* Cells, without a handle. Each call takes O(1) if nothing else is said, and only s2ix_cell_border allocates. A call that gives a cell, a
    level or a face gives 0 if it is refused. A call that returns a bool returns false if a number is no cell's. */
 

@@ -238,8 +238,8 @@ class Index {
 
   // Makes one change of all that a function does to the index, and returns how many pairs that change has: 0 if it is none. If the function
   // throws, or the changes can't become one, all that it did is undone and the exception goes on; then it could be redone. In it undo()
-  // takes back no earlier change, and what would drop changes throws std::logic_error: forget(), forget_older(), clear(), and a line with
-  // the word undo or forget. Groups may lie within groups. What other threads do meanwhile is in the group too. Until its end each edit in it
+  // takes back no earlier change, and what would drop changes throws std::logic_error: forget(), forget_older(), clear(), and a line that
+  // undoes or forgets. Groups may lie within groups. What other threads do meanwhile is in the group too. Until its end each edit in it
   // counts as a change, so a full journal may refuse it. If memory is wanted to undo, std::bad_alloc is thrown in place of the exception, and
   // the first edits may be left. It costs what join() does.
   template <class Do>
@@ -551,7 +551,7 @@ class Index {
     std::string answer;
     // (the first call has room for the answer of any edit, so that only a long answer needs a second call)
     const std::uint32_t status = handle_.edit([&](::s2ix_handle* handle) {
-      if (line.find("undo") != line.npos || line.find("forget") != line.npos) check_no_group();
+      if (group_ && drops_changes(line)) check_no_group();
       return detail::fill(answer, [&](char* bytes, std::size_t room, std::size_t* number) {
         return s2ix_line(handle, detail::bytes(line), line.size(), reinterpret_cast<std::uint8_t*>(bytes), room, number);
       });
@@ -617,6 +617,13 @@ class Index {
   }
 
   // Throws in a group.
+  // Whether a line takes changes back, or drops them.
+  static bool drops_changes(std::string_view line) {
+    std::uint8_t kind = S2IX_LINE_NOTHING;
+    detail::check(s2ix_line_kind(detail::bytes(line), line.size(), &kind));
+    return kind == S2IX_LINE_UNDO || kind == S2IX_LINE_FORGET;
+  }
+
   void check_no_group() const {
     if (group_) throw std::logic_error("s2ix: an index drops no changes in a group");
   }

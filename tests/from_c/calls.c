@@ -449,6 +449,27 @@ static void carried_out(s2ix_handle *handle, const char *line, size_t room, uint
     for (size_t place = strlen(answer); place < sizeof text; place++) EXPECT(text[place], 7);
 }
 
+/* What a line would do. */
+static void kind_told(const char *line, uint8_t wanted) {
+    uint8_t kind = 7;
+    EXPECT(s2ix_line_kind((const uint8_t *)line, strlen(line), &kind), S2IX_DONE);
+    EXPECT(kind, wanted);
+}
+
+static void kinds_of_lines(void) {
+    static const char *const questions[] = {"at 1", "meet 1 3", "labels 1", "region 3", "common 1 2", "only 1 2", "ranges", "path 1", "neighbors 1",
+                                            "face 1", "dump", "journal", "export"};
+    static const char *const edits[] = {"add 1 3", "addunion 9 1 3", "remove 1 3 2", "drop 3", "relabel 3 4", "grow 3 2", "normal 3", "revert 1"};
+    static const char *const nothing[] = {"", " ", "# undo", "#forget", "undo 1", "add 1", "fly", "undone", "Undo"};
+    for (size_t k = 0; k < sizeof questions / sizeof *questions; k++) kind_told(questions[k], S2IX_LINE_QUESTION);
+    for (size_t k = 0; k < sizeof edits / sizeof *edits; k++) kind_told(edits[k], S2IX_LINE_EDIT);
+    for (size_t k = 0; k < sizeof nothing / sizeof *nothing; k++) kind_told(nothing[k], S2IX_LINE_NOTHING);
+    kind_told("undo", S2IX_LINE_UNDO);
+    kind_told("\tundo # back", S2IX_LINE_NOTHING);
+    kind_told(" redo ", S2IX_LINE_REDO);
+    kind_told("forget", S2IX_LINE_FORGET);
+}
+
 static void lines(void) {
     s2ix_handle handle = {0};
     size_t number;
@@ -604,6 +625,7 @@ int main(void) {
     told();
     copied();
     lines();
+    kinds_of_lines();
     further_lines();
     written_and_read();
     exported();

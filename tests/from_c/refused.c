@@ -152,6 +152,9 @@ CALL(adds_by_line) { return (void)other, s2ix_line(handle, TEXT(add_line), told-
 CALL(asks_by_line) { return (void)other, s2ix_line(handle, TEXT(meet_line), told->bytes, ROOM, &told->number); }
 
 /* Calls without a handle. */
+static uint8_t kind;
+CALL(kind_of_union_line) { return (void)handle, (void)other, (void)told, s2ix_line_kind(TEXT(meet_line), &kind); }
+CALL(kind_of_line) { return (void)handle, (void)other, (void)told, s2ix_line_kind(TEXT("region 1"), &kind); }
 CALL(border) { return (void)handle, (void)other, s2ix_cell_border(first, 3, CELLS, &told->number); }
 CALL(normal_list) { return (void)handle, (void)other, s2ix_union_normalise(two, 2, CELLS, &told->number); }
 CALL(from_leaves) { return (void)handle, (void)other, s2ix_union_from_leaves(3, 77, CELLS, &told->number); }
@@ -353,6 +356,8 @@ static const struct {
     {"export", exports, true},
     {"line of an edit", adds_by_line, true},
     {"line of a query", asks_by_line, true},
+    {"kind of a line with cells", kind_of_union_line, true},
+    {"kind of another line", kind_of_line, false},
     {"border", border, true},
     {"union_normalise", normal_list, true},
     {"union_from_leaves", from_leaves, true},

@@ -368,6 +368,7 @@ void Grouped() {
     REFUSED(S2IX_TOO_FEW_CHANGES, index.join(2));
     EXPECT(IsMistake([&] { index.forget(); }) && IsMistake([&] { index.forget_older(1); }) && IsMistake([&] { index.clear(); }));
     EXPECT(IsMistake([&] { index.line("undo"); }) && IsMistake([&] { index.line(" forget"); }));
+    EXPECT(index.line("# undo").empty() && index.line(" #forget").empty() && index.line("undo 1") == "no BadArguments\n");
     EXPECT(index.line("remove 0c 4") == "ok 1\n");
   }) == 0);
   EXPECT(index.group([] {}) == 0 && index.dump() == dump && index.journal() == journal);

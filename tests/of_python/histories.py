@@ -99,6 +99,7 @@ def check_groups(count):
             calls = [index.forget, lambda: index.forget_older(1), index.clear, lambda: index.line("undo"), lambda: index.line("\u2003forget")]
             count.expect("refused in a group", [told(call) for call in calls], ["RuntimeError"] * 5)
             count.expect("a line in a group", index.line("remove 0c 4"), "ok 1\n")
+            count.expect("words in a group", [index.line(line) for line in ("# undo", " #forget", "undo 1")], ["", "", "no BadArguments\n"])
         count.expect("groups of nothing", (index.dump(), index.journal()), kept)
         for raised in (KeyError, KeyboardInterrupt, s2ix.NotHeld):
             try:

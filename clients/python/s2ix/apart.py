@@ -5,7 +5,7 @@ import functools
 from typing import Any, Callable, Optional
 
 from s2ix.groups import OpenGroup
-from s2ix.index import Index, is_still
+from s2ix.index import Index, is_still, kind_of_line
 from s2ix.refusals import NoSuchChange
 from s2ix.given import MOST_U32, Text, bytes_of, check
 from s2ix.rows import Entry
@@ -90,7 +90,7 @@ class Apart(Steps):
     def _still_line(self, line: Text) -> Optional[str]:
         """What a line answers that changes no pair; None for another line, and for a journal that another's group is in."""
         given, index = bytes_of(line), self._seen()
-        if not is_still(given) or index is not self and b"journal" in given:
+        if not is_still(kind_of_line(given)) or index is not self and b"journal" in given:
             return None
         return Index.line(index, given)
 

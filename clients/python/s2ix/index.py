@@ -5,6 +5,7 @@ import ctypes
 from ctypes import addressof
 from typing import Any, Callable, Iterator, Optional, TypeVar
 
+from s2ix import library
 from s2ix.batches import labels_met_by_each, labels_of_each, rows_met_by_each, rows_of_each
 from s2ix.edits import Edits
 from s2ix.given import (
@@ -22,13 +23,20 @@ _Read = TypeVar("_Read")
 
 # How many ranges the first page of them has.
 _FIRST_RANGES = 32
-# How a line begins that changes no pair.
-_STILL = tuple(b"at meet labels ranges region common only path neighbors face dump journal export forget #".split())
+# What a line of a script would do, as `kind_of_line` tells: the library's numbers.
+_NOTHING, _QUESTION, _UNDO, _FORGET = 0, 1, 3, 5
 
 
-def is_still(line: bytes) -> bool:
-    """Whether a line begins as one that changes no pair."""
-    return line.startswith(_STILL) or line.lstrip().startswith(_STILL)
+def kind_of_line(line: bytes) -> int:
+    """What a line of a script would do. Raises OutOfMemory."""
+    kind = ctypes.c_uint8()
+    expect(library.load().s2ix_line_kind(line, len(line), addressof(kind)))
+    return kind.value
+
+
+def is_still(kind: int) -> bool:
+    """Whether a line of this kind changes no pair."""
+    return kind in (_NOTHING, _QUESTION, _FORGET)
 
 
 class Index(Edits):
@@ -185,8 +193,8 @@ class Index(Edits):
     def group(self) -> Group:
         """Makes one change of all that is done in a `with`, or none if the counts are then what they were. If the `with` ends with an
         exception, or the changes can't become one, all that was done in it is undone; then it could be redone. In it `undo` takes back no
-        earlier change, and what would drop changes raises RuntimeError: `forget`, `forget_older`, `clear`, and a `line` with the word undo
-        or forget. What other threads and tasks do meanwhile is in the group too. Until its end each edit in it counts as a change, so a
+        earlier change, and what would drop changes raises RuntimeError: `forget`, `forget_older`, `clear`, and a `line` that undoes or
+        forgets. What other threads and tasks do meanwhile is in the group too. Until its end each edit in it counts as a change, so a
         full journal may refuse it. It costs what `join` does. Raises Closed; and OutOfMemory: if memory is wanted to undo, the first edits
         of the group may be left.
 
@@ -743,9 +751,10 @@ class Index(Edits):
         ('ok 1\\n', '04\\nend 1\\n', 'no NothingToRedo\\n')
         """
         given = bytes_of(text)
-        if b"undo" in given or b"forget" in given:
+        kind = kind_of_line(given)
+        if kind in (_UNDO, _FORGET):
             self._expect_no_group()
-        if is_still(given):
+        if is_still(kind):
             return self._listed(self._calls.s2ix_line, 1, text_of, given, len(given))
         return self._edited(self._answer, given)
 

@@ -116,6 +116,7 @@ CALLS = {
     "s2ix_journal_from": [address, u32, address, size, address],
     "s2ix_export": [address, address, size, address],
     "s2ix_line": [address, address, size, address, size, address],
+    "s2ix_line_kind": [address, size, address],
     "s2ix_cell_is_valid": [u64],
     "s2ix_cell_from_token": [address, size, address],
     "s2ix_cell_to_token": [u64, address, address],

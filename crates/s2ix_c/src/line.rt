@@ -4,6 +4,7 @@ ghost use Rattle.std.specs.Prelude.{◌≡◌};
 ghost use Rattle.s2ix_c_calls.specs.Handle.{held_of};
 ghost use Rattle.s2ix_c.specs.Calls.{Through};
 ghost use Rattle.s2ix_c_calls.specs.Line.{IsCarriedOut};
+ghost use Rattle.s2ix_c_calls.specs.LineKind.{TellsKind};
 ghost use Rattle.s2ix_c_calls.specs.Status.{closed};
 
 use crate::handles::with_store;
@@ -30,4 +31,12 @@ pub extern "C" fn s2ix_line(
         handle,
         |store| calls::line(alloc, &mut store, line, out, number)
     )
+}
+
+/// What a line of a script would do: `kind` is one of `S2IX_LINE_..` in `s2ix.h`. It needs no store.
+#[unsafe(no_mangle)]
+pub extern "C" fn s2ix_line_kind(alloc: Global, line: &[u8], kind: &mut u8) -> u32
+    ensures { TellsKind line.now result kind.new }
+{
+    calls::line_kind(alloc, line, kind)
 }

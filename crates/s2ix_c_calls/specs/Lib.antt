@@ -17,4 +17,5 @@ pub mod Resuming
 pub mod Removing
 pub mod Recording
 pub mod Line
+pub mod LineKind
 pub mod Laws

@@ -8,6 +8,7 @@ pub use crate::each::{at_each, meet_each};
 pub use crate::edits::{add_all, add_union, edit};
 pub use crate::held_labels::held_labels;
 pub use crate::line::line;
+pub use crate::line_kind::line_kind;
 pub use crate::listing::{of_label, pairs};
 pub use crate::queries::{at, labels, meet, meet_from, region};
 pub use crate::ranges::{contents, find, next_full, previous_full, range, ranges};

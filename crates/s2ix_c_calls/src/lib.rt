@@ -25,6 +25,7 @@ mod handle;
 mod held_labels;
 pub mod laws;
 mod line;
+mod line_kind;
 mod listing;
 mod meetings;
 mod no_answer;
