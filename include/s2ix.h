@@ -31,10 +31,11 @@
    - in s2ix_load, s2ix_replay, s2ix_rewind and s2ix_resume, whatever is wrong after the dump's first line;
    - in s2ix_apply, whatever is wrong after the journal's first line.
 
-   A call wants no memory if it is given no rows, entries or cells, a label that is not held, equal bounds, or a page with no room. Nor do
-   s2ix_meet and s2ix_meet_from if they are given at most 1,024 cells that follow one another: the cells rise, with or without gaps, and
-   none lies within another, as in each valid S2CellUnion. s2ix_meet_each wants none for such a target. From 129 such cells on these calls,
-   s2ix_labels and s2ix_labels_each take 9 KB of the stack. The exception is s2ix_line, which may want memory for any query.
+   A call other than s2ix_line wants no memory if it is given no rows, entries or cells, a label that is not held, equal bounds, or a page
+   with no room; s2ix_line may want memory for any query. s2ix_meet and s2ix_meet_from also want none if they are given at most 1,024 cells
+   that follow one another: the cells rise, with or without gaps, and none lies within another, as in each valid S2CellUnion. s2ix_meet_each
+   wants none for such a target. If there are more than 128 such cells, these three calls take 9 KB of the stack, and so do s2ix_labels and
+   s2ix_labels_each.
 
    You must ensure this, since no call can check it:
 

@@ -183,7 +183,7 @@ class Handle {
     drop_copies();
   }
 
-  // Whether there is a store. O(1), without a turn unless calls of others may close it by the handle.
+  // Whether there is a store. O(1). It waits for its turn only if the handle was handed out, since then others may close the store by it.
   [[nodiscard]] bool is_open() const noexcept {
     if (has_readers_) return !is_closed_.load(std::memory_order_acquire);
     return ask([](::s2ix_handle* handle) { return handle->is_open; });
@@ -376,7 +376,7 @@ class Handle {
     Slots<Reader>* readers = readers_or_none();
     if (readers == nullptr) return;
     const Taken<Reader> own = readers->take(Use::asked);
-    if (own && !own->item.shows(state) && own->item.lost(state, lost) >= time_of_copy()) own->item.follow(&handle_, state);
+    if (own && !own->item.shows(state) && own->item.lost(state, lost) >= delay_by_copy()) own->item.follow(&handle_, state);
   }
 
   // The readers, which are made if there are none, unless memory is refused.
@@ -390,10 +390,10 @@ class Handle {
     return readers_.load(std::memory_order_relaxed);
   }
 
-  // What a question that others wait for takes, roughly, and what a copy costs the next edit: some 40 ns for each of the store's parts, of 300
-  // pairs or so.
+  // Roughly how long a question takes for which others wait, and by how much a copy delays the next edit: by some 40 ns for each of the store's
+  // parts, of 300 pairs or so.
   static constexpr std::chrono::nanoseconds time_of_question{1000};
-  std::chrono::nanoseconds time_of_copy() const noexcept {
+  std::chrono::nanoseconds delay_by_copy() const noexcept {
     std::size_t pairs = 0;
     s2ix_len(&handle_, &pairs);
     return std::chrono::nanoseconds(pairs / 8);

@@ -15,7 +15,7 @@ namespace s2ix {
 namespace detail {
 
 // Room that a thread keeps for what its next query finds, until the thread ends: the library wants initialised room, and so it is initialised
-// once. A query has it as long as it runs, and meanwhile another query, as in a visit, has room of its own. At most `most` items are kept, so
+// once. A query has it as long as it runs; another query meanwhile, as within a visit, has room of its own. At most `most` items are kept, so
 // that one long answer doesn't hold memory for good.
 template <class Item, std::size_t most>
 class Room {
@@ -27,7 +27,7 @@ class Room {
     swap(taken);
     return *this;
   }
-  // (short, so that the compiler puts it even where exceptions pass: what gets no pointer to an iterator can keep it in registers)
+  // (short, so that the compiler inlines it even where exceptions pass: then no call gets a pointer to an iterator, which can stay in registers)
   ~Room() {
     if (items_ != nullptr) give_back_by_call(items_, size_);
   }
@@ -35,7 +35,7 @@ class Room {
   [[nodiscard]] Item* data() const noexcept { return items_; }
   [[nodiscard]] std::size_t size() const noexcept { return size_; }
 
-  // Takes what the thread keeps, or new room for `least` items: if this has none yet.
+  // Takes what the thread keeps, or else makes room for `least` items. Call it only if this has no room yet.
   void take(std::size_t least) {
     Kept& here = kept();
     size_ = here.size;
@@ -169,7 +169,7 @@ class Found {
     return status;
   }
 
-  // Puts so many items at most in place of the items: as many as a call says that it has put.
+  // Puts at most so many items in place of those that are there. The call returns how many it has put.
   template <class Call>
   void fill_page(std::size_t size, Call call) {
     make_room(size);

@@ -1,8 +1,8 @@
 """Whether wrong bodies compile. This is asked of all before any is tried: one that doesn't would show only at its own check, up to an hour later.
 
-A check of no function reads a crate as the compiler does and proves nothing. One such check takes all bodies whose edits fit into one text, also
-several of a function and those that want a trial to themselves. If the compiler stops, those bodies are read one by one in whose functions the errors
-lie, and then the others in halves. Only a body that doesn't compile by itself is at fault: two that don't compile together may be sound.
+A check of no function reads a crate as the compiler does and proves nothing. One such check takes all bodies whose edits fit into one text, even
+if several change one function, or want a trial to themselves. If the compiler finds errors, it reads one by one the bodies of those functions in which
+the errors lie, and then the others in halves. Only a body that doesn't compile by itself is at fault: two that don't compile together may be sound.
 
 The verdict on a body doesn't rest on what is found here: a body that doesn't compile is never tried, and so never counts as refused."""
 import concurrent.futures
@@ -23,7 +23,7 @@ class NotCompiled(Exception):
 
 
 def ask(bodies, libraries, lanes):
-    """Raises NotCompiled as soon as one of some wrong bodies, by crate, is found that doesn't compile."""
+    """Raises NotCompiled as soon as it finds a wrong body that doesn't compile; `bodies` has those of each crate."""
     for body in (body for all_of in bodies.values() for body in all_of):
         if body.applied({}) is None:
             raise NotCompiled(f"wrong body {body.crate}/{body.name}: FAILED: it cannot be applied")
@@ -57,7 +57,7 @@ def groups_of(bodies):
 
 
 def first_fault(crate, bodies):
-    """The first of a group of a crate's bodies that is found not to compile, with the compiler's words, or None."""
+    """The first body of a group of a crate's that doesn't compile by itself, with the compiler's words, or None."""
     told = crate.check([Body(crate.name, "together", functions=[""], changes=[change for body in bodies for change in body.changes])])
     faults = [] if HANDED_ON.search(told.said) else list(FAULT.finditer(told.said))
     if not faults:
