@@ -108,7 +108,7 @@ fn put_places<T: RangeTable>(
     DONE
 }
 
-// The same at once if nothing lies there, as behind most chains in lists.
+// The same, but it returns at once if the chain has no pair there. Most chains that begin in lists have none behind them.
 #[inline(always)]
 fn put_chain<T: RangeTable>(
     table: &T,

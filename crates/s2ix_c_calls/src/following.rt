@@ -1,4 +1,4 @@
-//! Cells by their numbers, as long as they follow one another.
+//! Cells by their numbers, if they follow one another.
 
 ghost use Rattle.std.specs.Prelude.{◌≡◌, ◌≤◌, IsTrue, false, length, take};
 ghost use Rattle.s2id_union.specs.Covers.{FollowOneAnother};
@@ -6,8 +6,8 @@ ghost use Rattle.s2ix_c_calls.specs.Asked.{AreCells, AreFollowing};
 
 use s2id_core::CellId;
 
-/// Writes the cells of some numbers to the front of `room`, and ends with false at the first number that is no cell's or whose cell doesn't
-/// follow the one before it. O(n) for n numbers.
+/// Writes the cells of some numbers to the front of `room`, and returns true. At the first number that is no cell's, or whose cell doesn't
+/// follow the one before it, it returns false. O(n) for n numbers.
 #[inline]
 pub(crate) fn write_following(ids: &[u64], room: &mut [CellId]) -> bool
     requires { length ids.now ≤ length room.old }

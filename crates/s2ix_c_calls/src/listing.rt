@@ -75,7 +75,7 @@ fn write_labelled(store: &Store, label: Label, out: &mut [Row])
     }
 }
 
-/// The pairs of a label, by rising cell. It does not allocate: it goes through the pairs once to count, and once to write.
+/// The pairs of a label, by rising cell. It does not allocate: it looks for them once to count, and once to write.
 pub fn of_label(store: &Store, label: u32, out: &mut [Row], number: &mut usize) -> u32
     ensures { Puts (rows_with (label_numbered label) store.now) result number.new out.old out.new }
 {

@@ -64,7 +64,8 @@ fn count_met<R: Reader>(meeting: &mut Meeting<'_, R>) -> usize
     left
 }
 
-// Puts the pairs that the cells of a target meet to the front of `out` as far as it has room; `number` is how many there are. It does not allocate.
+// Puts the pairs that the cells of a target meet to the front of `out` as far as it has room; `number` is how many there are. It does not
+// allocate.
 fn put_met<T: RangeTable>(table: &T, cells: &[CellId], out: &mut [Row], number: &mut usize) -> u32
     requires { FollowOneAnother cells.now }
     ensures { IsFilled (map row_of (meeting_of cells.now (T.pairs table.now))) result number.new out.old out.new }
@@ -84,8 +85,8 @@ fn put_met<T: RangeTable>(table: &T, cells: &[CellId], out: &mut [Row], number: 
     DONE
 }
 
-// Puts the pairs that the cells of a target meet, from a place on, counted from 0, to the front of `out`: as many as it has room for. The answer is how
-// many are put. It does not allocate.
+// Puts the pairs that the cells of a target meet, from a place on, counted from 0, to the front of `out`: as many as it has room for. The
+// answer is how many are put. It does not allocate.
 fn put_met_from<T: RangeTable>(table: &T, cells: &[CellId], from: usize, out: &mut [Row]) -> usize
     requires { FollowOneAnother cells.now }
     ensures { IsPut (map row_of (take (length out.old) (drop from (meeting_of cells.now (T.pairs table.now))))) done result out.old out.new }

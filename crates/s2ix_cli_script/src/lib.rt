@@ -3,7 +3,7 @@
 //! [`meaning`] reads one line and gives the [`Instruction`] that it asks for, nothing for a comment or a line without a field, or the first
 //! fault. Beneath it, each call takes the fields after a line's word, and gives what they name (cells, labels, pairs, unions, edits) or a
 //! [`LineFault`]: too few or too many fields, else the fault of the first unfit one. Only a list of cells allocates ([`LineError`]).
-//! Nothing is carried out here: `s2ix_cli` does that over a store.
+//! Nothing is carried out here: `s2ix_cli_run` does that over a store.
 #![tactic(auto)]
 
 mod cells;

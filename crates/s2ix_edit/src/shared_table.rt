@@ -15,7 +15,7 @@ use std::alloc::Global;
 use std::marker::Model;
 use std::sync::Arc;
 
-// The range table of a store, with the stores that share it counted. Contracts see its pairs.
+// The range table of a store. It counts the stores that share it. Contracts see its pairs.
 #[derive(Debug, Drop)]
 pub(crate) struct SharedTable {
     shared: Arc<StoreTable>,
@@ -55,8 +55,9 @@ impl SharedTable {
         &self.shared
     }
 
-    // Makes this table that of its pairs after a change, which `bag` reads: in place if nobody shares it, and else beside it, so that it stays
-    // for the others. The two then share the parts that stay. If a growth is refused, the table stays.
+    // Makes this the table after a change: `bag` reads the pairs that the change has made. If no other store shares the table, it is changed
+    // in place. Otherwise it stays for the others, and a new one is made beside it, which shares the parts that stay. If a growth is refused,
+    // the table stays.
     pub(crate) fn rebuild<B: PairReader>(
         &mut self,
         alloc: Global,
