@@ -616,7 +616,6 @@ class Index {
     return !group_ || s2ix_done_count(handle, &done) != S2IX_DONE || (*group_ <= done && last <= done - *group_);
   }
 
-  // Throws in a group.
   // Whether a line takes changes back, or drops them.
   static bool drops_changes(std::string_view line) {
     std::uint8_t kind = S2IX_LINE_NOTHING;
@@ -624,6 +623,7 @@ class Index {
     return kind == S2IX_LINE_UNDO || kind == S2IX_LINE_FORGET;
   }
 
+  // Throws in a group.
   void check_no_group() const {
     if (group_) throw std::logic_error("s2ix: an index drops no changes in a group");
   }
