@@ -9,6 +9,7 @@
 #include <cstddef>
 #include <cstdint>
 #include <iterator>
+#include <string_view>
 #include <tuple>
 #include <vector>
 
@@ -20,6 +21,13 @@ namespace detail {
 inline std::uint32_t record(::s2ix_handle* handle, const std::vector<Entry>& entries, std::size_t* number) {
   static constexpr Entry none{};
   return s2ix_record(handle, entries.empty() ? &none : entries.data(), entries.size(), number);
+}
+
+// Whether a line of a script takes changes back, or drops them.
+inline bool drops_changes(std::string_view line) {
+  std::uint8_t kind = S2IX_LINE_NOTHING;
+  check(s2ix_line_kind(bytes(line), line.size(), &kind));
+  return kind == S2IX_LINE_UNDO || kind == S2IX_LINE_FORGET;
 }
 
 // Puts the entries of the change with a number in place of what a list held.

@@ -551,7 +551,7 @@ class Index {
     std::string answer;
     // (the first call has room for the answer of any edit, so that only a long answer needs a second call)
     const std::uint32_t status = handle_.edit([&](::s2ix_handle* handle) {
-      if (group_ && drops_changes(line)) check_no_group();
+      if (group_ && detail::drops_changes(line)) check_no_group();
       return detail::fill(answer, [&](char* bytes, std::size_t room, std::size_t* number) {
         return s2ix_line(handle, detail::bytes(line), line.size(), reinterpret_cast<std::uint8_t*>(bytes), room, number);
       });
@@ -614,13 +614,6 @@ class Index {
   bool is_in_group(::s2ix_handle* handle, std::size_t last) const {
     std::size_t done = 0;
     return !group_ || s2ix_done_count(handle, &done) != S2IX_DONE || (*group_ <= done && last <= done - *group_);
-  }
-
-  // Whether a line takes changes back, or drops them.
-  static bool drops_changes(std::string_view line) {
-    std::uint8_t kind = S2IX_LINE_NOTHING;
-    detail::check(s2ix_line_kind(detail::bytes(line), line.size(), &kind));
-    return kind == S2IX_LINE_UNDO || kind == S2IX_LINE_FORGET;
   }
 
   // Throws in a group.

@@ -13,6 +13,7 @@ use Rattle.std.proofs.lemmas.List.Elements.{All-map, filter-append}
 use Rattle.std.proofs.lemmas.List.Filters.{length-filter_both, sum_by-filter_both}
 use Rattle.std.proofs.lemmas.List.Sums.{sum_by-append, sum_by-cons}
 use Rattle.s2id_core.proofs.Lists.{at_head, cons_cases, head_pairs, in_tail, none_in_nil, tail_pairs}
+use Rattle.s2id_core.proofs.Sorted.{rising_by, same_members}
 use Rattle.s2ix_bag_pairs.specs.declared.label.Label.{Label}
 use Rattle.s2ix_bag_pairs.specs.declared.pair.Held.{Held}
 use Rattle.s2ix_bag_pairs.specs.Collection.{Collection, copies_in}
@@ -21,7 +22,7 @@ use Rattle.s2ix_bag_pairs.specs.OfLabel.{held_of}
 use Rattle.s2ix_bag_pairs.proofs.Pairs.{same_label}
 use Rattle.s2ix_table_walk.specs.LabelList.{label_list}
 use Rattle.s2ix_table_walk.proofs.LabelList.{is_label_list, label_list_is}
-use Rattle.s2ix_table_queries.proofs.Labelling.{label_list_from_sorted}
+use Rattle.s2ix_table_queries.proofs.Labelling.{label_list_from_rising}
 use Rattle.s2ix_edit.specs.declared.held_labels.HeldLabel.{HeldLabel}
 use Rattle.s2ix_edit.specs.HeldLabels.{counted_with, held_labels, label_in, name_of, total_of}
 
@@ -87,8 +88,10 @@ pub sorted_labels : (hs : Collection) (xs ys zs : List Label) → xs ≡ map lab
     → IsFiltered (DiffersFromLast (on value_of nat_eq)) [] ys zs → zs ≡ label_list hs
 sorted_labels hs xs ys zs are permutes sorted filtered =
     is_label_list hs zs
-    (label_list_from_sorted hs xs ys zs (λ l. subst (λ (ls : List Label). Contains ls l ↔ ((h : Held) × Contains hs h × (h.pair.label ≡ l))) (sym are) (label_in_map hs l))
-    permutes sorted filtered)
+    (label_list_from_rising hs xs zs
+    (λ l. subst (λ (ls : List Label). Contains ls l ↔ ((h : Held) × Contains hs h × (h.pair.label ≡ l))) (sym are) (label_in_map hs l))
+    (rising_by value_of ys zs sorted filtered)
+    (λ l. let same = same_members value_of same_label xs ys zs permutes filtered l in (same.1, same.0)))
 
 -- ---- the totals of a part are no greater than those of the whole
 
