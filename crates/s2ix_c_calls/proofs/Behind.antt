@@ -2,7 +2,7 @@
 use Rattle.std.proofs.Common.{◌≡◌, ◌<◌, ◌≤◌, ◌+◌, ◌-◌, ◌∙◌, ℕ, List, [], ◌++◌, length, map, take, drop, ap, subst, sym, refl, inl, inr, arith, length-append}
 use Rattle.std.proofs.Math.Seq.{drop-append-add, drop-drop, take-append-add}
 use Rattle.std.proofs.lemmas.Bool.{cases_lt}
-use Rattle.std.proofs.lemmas.List.{append-nil, append_assoc, drop-append-le, length-drop, length-map, length-take-le, map-append, take_all, take_at}
+use Rattle.std.proofs.lemmas.List.{append-nil, append_assoc, drop-append-le, length-drop, length-map, length-take-le, map-append, take_at}
 use Rattle.s2ix_c_calls.specs.Lists.{IsFilled, IsPut}
 use Rattle.s2ix_c_calls.specs.Status.{done, no_room}
 use Rattle.s2ix_c_calls.proofs.Filling.{empty, puts_page}

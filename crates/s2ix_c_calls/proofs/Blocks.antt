@@ -1,7 +1,7 @@
 -- A block of a list goes out to a buffer, behind the blocks that are out.
-use Rattle.std.proofs.Common.{◌≡◌, ◌<◌, ◌≤◌, ◌+◌, ◌-◌, ◌∙◌, ℕ, List, [], ◌++◌, length, map, min, take, drop, ap, sym, refl, arith, length-append, length-drop}
+use Rattle.std.proofs.Common.{◌≡◌, ◌≤◌, ◌+◌, ◌-◌, ◌∙◌, ℕ, List, [], ◌++◌, length, map, take, drop, ap, sym, arith, length-append, length-drop}
 use Rattle.std.proofs.Math.Seq.{drop-append-add, drop-drop, take-append-add}
-use Rattle.std.proofs.lemmas.List.{append-nil, length-take, length-take-le, map-append, take-append-le, take_all}
+use Rattle.std.proofs.lemmas.List.{append-nil, length-take, length-take-le, map-append, take_all}
 use Rattle.s2ix_bag_pairs.specs.Collection.{Collection}
 use Rattle.s2ix_bag_pairs.specs.declared.pair.Held.{Held}
 use Rattle.s2ix_table.proofs.ReadBlocks.{with_block}

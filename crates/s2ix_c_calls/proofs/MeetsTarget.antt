@@ -1,5 +1,5 @@
 -- What the cells of a target meet, put to a buffer.
-use Rattle.std.proofs.Common.{◌≡◌, ◌⊎◌, ℕ, List, length, map, take, drop, ap, sym, subst, inl, inr}
+use Rattle.std.proofs.Common.{◌≡◌, ◌⊎◌, ℕ, List, length, map, take, drop, sym, subst, inl, inr}
 use Rattle.s2id_core.specs.declared.cell_id.CellId.{CellId}
 use Rattle.s2id_union.specs.NormalForm.{normal_form}
 use Rattle.s2id_union.proofs.NormalForm.{form_same_region}

@@ -1,5 +1,5 @@
 -- One more target is answered, or the next one is not.
-use Rattle.std.proofs.Common.{◌≡◌, ◌≢◌, ◌<◌, ◌≤◌, ◌+◌, ◌∙◌, ℕ, List, [], ◌∷◌, ◌++◌, length, take, get_or, slice_set, flat_map, refl, sym, ap, subst, inl, inr, arith, length-append}
+use Rattle.std.proofs.Common.{◌≡◌, ◌<◌, ◌≤◌, ◌+◌, ◌∙◌, ℕ, List, [], ◌∷◌, ◌++◌, length, take, get_or, slice_set, flat_map, refl, sym, ap, subst, inl, inr, arith, length-append}
 use Rattle.std.proofs.lemmas.Bool.{cases_eq}
 use Rattle.std.proofs.lemmas.List.{flat_map_more, get_or-append-add, get_or-set_other, get_or-set_same, get_or_append_left, length-set, length-take, length-take-le, take-append-le, take_all, take_at}
 use Rattle.std.proofs.Math.Seq.{take-append-add}

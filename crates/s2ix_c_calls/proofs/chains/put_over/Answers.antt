@@ -1,6 +1,6 @@
 -- The chain in lists goes out, and then the one behind it.
-use Rattle.std.proofs.Common.{◌≡◌, ℕ, ◌<◌, ◌≤◌, ◌+◌, ◌-◌, ◌++◌, ◌∙◌, List, [], length, map, take, drop, ap, subst, sym, refl, arith, length-append}
-use Rattle.std.proofs.lemmas.List.{append-nil, length-drop, length-map, length-take, length-take-le, take_rest}
+use Rattle.std.proofs.Common.{◌≡◌, ℕ, ◌<◌, ◌≤◌, ◌+◌, ◌-◌, ◌++◌, ◌∙◌, length, map, take, drop, ap, subst, refl, arith, length-append}
+use Rattle.std.proofs.lemmas.List.{length-map, length-take-le, take_rest}
 use Rattle.s2id_core.specs.CellId.{raw_of}
 use Rattle.s2ix_bag_pairs.specs.Collection.{Collection}
 use Rattle.s2ix_table_walk.specs.Contents.{contents_at}
@@ -8,7 +8,6 @@ use Rattle.s2ix_table_walk.specs.Places.{from_place}
 use Rattle.s2ix_table_queries.proofs.Linking.{over_leaf}
 use Rattle.s2ix_c_calls.specs.Lists.{IsFilled, row_of}
 use Rattle.s2ix_c_calls.specs.Status.{no_room}
-use Rattle.s2ix_c_calls.specs.declared.rows.Row.{Row}
 use Rattle.s2ix_c_calls.proofs.Begun.{front_all}
 use Rattle.s2ix_c_calls.proofs.Behind.{fills_both, to_the_end}
 use Rattle.s2ix_c_calls.proofs.Filling.{left_short}

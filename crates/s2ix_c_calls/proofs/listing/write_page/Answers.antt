@@ -1,5 +1,5 @@
 -- The page has one block more.
-use Rattle.std.proofs.Common.{◌≡◌, ◌≤◌, ◌<◌, ◌+◌, ◌-◌, ◌∙◌, length, map, take, drop, ap, refl, sym, subst, arith, length-drop}
+use Rattle.std.proofs.Common.{◌≡◌, ◌≤◌, ◌+◌, ◌-◌, ◌∙◌, length, map, take, drop, ap, refl, sym, subst, arith, length-drop}
 use Rattle.std.proofs.lemmas.List.{length-take-le}
 use Rattle.s2ix_bag_lists.specs.Parts.{IsPartAt}
 use Rattle.s2ix_bag_pairs.specs.Collection.{Collection}

@@ -1,13 +1,7 @@
 -- No cells meet nothing, and the cells of a target meet what their union does.
-use Rattle.std.proofs.Common.{◌∙◌, List, length, map, subst, subst₂, sym}
+use Rattle.std.proofs.Common.{◌∙◌, length, sym}
 use Rattle.std.proofs.lemmas.Bool.{eqb-true}
-use Rattle.s2id_core.specs.declared.cell_id.CellId.{CellId}
-use Rattle.s2ix_bag_pairs.specs.Collection.{Collection}
-use Rattle.s2ix_bag_pairs.specs.Label.{value_of}
-use Rattle.s2ix_bag_pairs.specs.declared.label.Label.{Label}
-use Rattle.s2ix_table_walk.specs.LabelList.{label_list}
-use Rattle.s2ix_table_walk.specs.Meeting.{meeting_of}
-use Rattle.s2ix_c_calls.specs.Lists.{IsFilled, labels_met}
+use Rattle.s2ix_c_calls.specs.Lists.{labels_met}
 use Rattle.s2ix_c_calls.proofs.MeetsTarget.{fills_labels}
 use Rattle.s2ix_c_calls.proofs.NoCells.{fills_nothing, no_labels_met}
 use Rattle.s2ix_c_calls.proofs.queries.labels.Goals as goal

@@ -1,11 +1,9 @@
 -- No cells meet nothing, a leaf meets what lies over it, and the cells of a target meet what their union does.
-use Rattle.std.proofs.Common.{◌∙◌, List, length, map, subst, subst₂, sym}
+use Rattle.std.proofs.Common.{◌∙◌, length, map, subst, sym}
 use Rattle.std.proofs.lemmas.Bool.{eqb-true}
-use Rattle.s2id_core.specs.declared.cell_id.CellId.{CellId}
 use Rattle.s2id_core.specs.CellId.{raw_of}
 use Rattle.s2ix_bag_pairs.specs.Collection.{Collection}
 use Rattle.s2ix_table_walk.specs.Contents.{contents_at}
-use Rattle.s2ix_table_walk.specs.Meeting.{meeting_of}
 use Rattle.s2ix_c_calls.specs.Lists.{IsFilled, row_of, rows_met}
 use Rattle.s2ix_c_calls.proofs.MeetsLeaf.{meets_leaf}
 use Rattle.s2ix_c_calls.proofs.MeetsTarget.{fills_met}

@@ -1,7 +1,6 @@
 -- No cells meet nothing, no room takes nothing, a leaf meets what lies over it, and the cells of a target meet what their union does.
-use Rattle.std.proofs.Common.{◌∙◌, List, ap, drop, length, map, subst, subst₂, sym, take}
+use Rattle.std.proofs.Common.{◌∙◌, ap, drop, length, map, subst, sym, take}
 use Rattle.std.proofs.lemmas.Bool.{eqb-true}
-use Rattle.s2id_core.specs.declared.cell_id.CellId.{CellId}
 use Rattle.s2id_core.specs.CellId.{raw_of}
 use Rattle.s2id_union.specs.NormalForm.{normal_form}
 use Rattle.s2ix_bag_pairs.specs.Collection.{Collection}
