@@ -14,11 +14,11 @@ use std::alloc::Global;
 
 // How many cells the lists on the stack have room for. The whole of a list is filled, so a short one does for few cells, and only a call with
 // many cells takes 8 KB of its caller's stack.
-const FEW: usize = 16;
+const SHORT_ROOM: usize = 16;
 
-const SOME: usize = 128;
+const ROOM: usize = 128;
 
-const MANY: usize = 1024;
+const LONG_ROOM: usize = 1024;
 
 /// A question about the cells of a target, whose answer is a list in a buffer of the caller.
 pub(crate) trait Question {
@@ -87,14 +87,14 @@ fn ask_as_given<Q: Question>(
     ensures none { result ≡ None → AreFollowing ids.now → ⊥ }
     ensures same { result ≡ None → out.new ≡ out.old }
 {
-    if ids.len() <= FEW {
-        return ask_following::<FEW, Q>(question, alloc, store, ids, out, number);
+    if ids.len() <= SHORT_ROOM {
+        return ask_following::<SHORT_ROOM, Q>(question, alloc, store, ids, out, number);
     }
-    if ids.len() <= SOME {
-        return ask_following::<SOME, Q>(question, alloc, store, ids, out, number);
+    if ids.len() <= ROOM {
+        return ask_following::<ROOM, Q>(question, alloc, store, ids, out, number);
     }
-    if ids.len() <= MANY {
-        return ask_following::<MANY, Q>(question, alloc, store, ids, out, number);
+    if ids.len() <= LONG_ROOM {
+        return ask_following::<LONG_ROOM, Q>(question, alloc, store, ids, out, number);
     }
     None
 }
