@@ -34,8 +34,8 @@
    A call other than s2ix_line wants no memory if it is given no rows, entries or cells, a label that is not held, equal bounds, or a page
    with no room; s2ix_line may want memory for any query. s2ix_meet and s2ix_meet_from also want none if they are given at most 1,024 cells
    that follow one another: the cells rise, with or without gaps, and none lies within another, as in each valid S2CellUnion. s2ix_meet_each
-   wants none for such a target. If there are more than 128 such cells, these three calls take 9 KB of the stack, and so do s2ix_labels and
-   s2ix_labels_each.
+   wants none for such a target. For 129 to 1,024 cells, whether they follow one another or not, these three calls, s2ix_labels and
+   s2ix_labels_each take 9 KB of the stack.
 
    You must ensure this, since no call can check it:
 
