@@ -91,7 +91,7 @@ class Measured:
             found = set()
             with tempfile.TemporaryDirectory(prefix="s2ix-bench-") as folder:
                 making.run([f"{OUT}/texts", str(size), folder])
-                for words in ([f"{OUT}/at_once"], [sys.executable, f"{TOP}/bench/at_once.py"]):
+                for words in ([f"{OUT}/at_once"], [DEBIAN_PYTHON, f"{TOP}/bench/at_once.py"]):
                     *figures, told = lines_of([*words, folder], env=around)
                     self.at_once.update({(name, size): float(figure) for name, figure in (line.split("\t") for line in figures)})
                     found.add(told)
@@ -100,7 +100,7 @@ class Measured:
 
     def measure_files(self):
         say("measuring an index in a file")
-        self.files = figures_of([sys.executable, f"{TOP}/bench/in_a_file.py", OUT])
+        self.files = figures_of([DEBIAN_PYTHON, f"{TOP}/bench/in_a_file.py", OUT])
 
     def measure_clusters(self):
         say("measuring joins of frames, by one process and by three")

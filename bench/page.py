@@ -1,9 +1,7 @@
 """What was measured, as tables in Markdown, and the page docs/reference/PERFORMANCE.md."""
-import importlib.metadata
 import os
 import platform
 import re
-import sqlite3
 import subprocess
 
 import making
@@ -197,17 +195,9 @@ def system():
         return re.search(r'^PRETTY_NAME="(.*)"', file.read(), re.M)[1] + f", {platform.machine()}"
 
 
-def numpy_version():
-    """The NumPy of the Python that runs, in words."""
-    try:
-        return f"NumPy {importlib.metadata.version('numpy')}"
-    except importlib.metadata.PackageNotFoundError:
-        return "no NumPy"
-
-
 def upstream(package):
     """The version that a package is made of."""
-    return re.split(r"[+-]", making.version_of(package))[0]
+    return re.split(r"[+-]", making.version_of(package).rpartition(":")[2])[0]
 
 
 def joined(lines):
@@ -225,7 +215,7 @@ def write(measured):
         doors=joined(doors_table(measured)), threads=joined(threads_table(measured)), index=joined(index_table(measured)), at_once=joined(at_once_table(measured)),
         edits=joined(edits_table(measured)),
         ids=joined(ids_table(measured)), programs=joined(programs_table(measured)), files=joined(files_table(measured)),
-        clusters=joined(clusters_table(measured)), python=platform.python_version(), numpy=numpy_version(), sqlite=sqlite3.sqlite_version,
+        clusters=joined(clusters_table(measured)), python=upstream("python3"), numpy=upstream("python3-numpy"), sqlite=upstream("libsqlite3-0"),
         pandas=upstream("python3-pandas"), dask=upstream("python3-dask"), processors=os.cpu_count(), ahead=behind, counted=counted)
     with open(f"{making.TOP}/docs/reference/PERFORMANCE.md", "w", encoding="utf-8") as file:
         file.write(text)
@@ -299,7 +289,7 @@ point end into another.
 - *Unsorted*: `at_each`, beside a `RangeIterator` that seeks each point, and a `ContentsIterator`.
 - *Rising*: the same over points that were sorted before. S2's iterators are kept, and seek only if a point lies behind the next range.
 - *From C*: `s2ix_labels_at_each` over the unsorted points, into lists that have room for all.
-- *From Python*: `Index.labels_at_each` over them, by Python {python} with {numpy}. It returns new lists.
+- *From Python*: `Index.labels_at_each` over them, by Debian's Python {python} with NumPy {numpy}. It returns new lists.
 - *By four threads*: each asks a copy of its own for a quarter of the points.
 
 The last four rows are by the clock, the best of nine calls. The figures in brackets are ratios: of four threads to one, and of Python to C.
@@ -332,7 +322,7 @@ empty script, and at few pairs mostly the start of a process with S2's shared li
 
 {files}
 
-By Python {python} with SQLite {sqlite}, over 10,000 pairs: the best of several runs, by the clock, since an edit waits for the disk. Each edit
+By Debian's Python {python} with SQLite {sqlite}, over 10,000 pairs: the best of several runs, by the clock, since an edit waits for the disk. Each edit
 adds one pair by a call of its own, and is in the file when the call returns.
 
 ## On a cluster
