@@ -259,7 +259,7 @@ def check_iterators(count):
     """An iterator refuses a page after an edit, and none after a query."""
     zones = Zones()
     for name, walk in {"pairs": zones.index.pairs, "visit": lambda: zones.index.visit(FACES), "ranges": zones.index.ranges}.items():
-        lines = ["add 04 5", "remove 04 5", "addunion 5 04", "drop 5", "relabel 4 5", "grow 5 3", "normal 5", "revert 1", "undo", " redo", "fly"]
+        lines = ["add 04 5", "remove 04 5", "addunion 5 04", "drop 5", "relabel 4 5", "grow 5 3", "normal 5", "revert 1", "undo", " redo"]
         edits = [lambda: zones.index.add(FACES[0], 5), zones.index.undo, zones.index.redo, lambda: zones.index.add_all([(FACES[1], 5, 1)])]
         for edit in [*edits, *(lambda text=text: zones.index.line(text) for text in lines)]:
             rows = walk()
@@ -270,7 +270,7 @@ def check_iterators(count):
         count.expect(f"{name} from the midst of an edit", tried(lambda: [*rows], RuntimeError), None)
         zones.index.undo()
         queries = ["at 1", " at 0000000000000001", "meet 1", "labels 1", "ranges", "region 1", "common 1 2", "only 1 2", "path 1", "neighbors 1", "face 1"]
-        queries += ["dump", "journal", "export", "\tforget", "# undo"]
+        queries += ["dump", "journal", "export", "\tforget", "# undo", "fly", "add 04"]
         calls = [lambda: zones.index.at(FIRST_LEAF), zones.index.forget, zones.index.dump, zones.index.copy, lambda: list(zones.index.pairs())]
         for call in [*calls, *(lambda text=text: zones.index.line(text) for text in queries)]:
             rows = walk()
