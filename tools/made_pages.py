@@ -263,11 +263,12 @@ def functions_of(crate):
 
 
 def path_ends(item):
-    """The paths that a function has for the prover: crate::meter::MeterReader::node is that of Reader in 'impl Reader for Meter'."""
+    """The paths that a function has for the prover, of which the first one is its own: crate::meter::MeterReader::node is that of Reader in 'impl
+    Reader for Meter'."""
     modules = re.sub(r"(^|/)(lib|main|mod)$", "", item.path.split("/src/")[1].removesuffix(".rt")).split("/")
     words = re.findall(r"\w+(?!\w*::)", item.trait)
     kind = item.owner[:1].upper() + item.owner[1:]
-    owners = {kind + "".join(words[:count]) for count in range(min(1, len(words)), len(words) + 1)}
+    owners = [kind + "".join(words[:count]) for count in range(len(words), min(1, len(words)) - 1, -1)]
     return ["::".join(["", *filter(None, [*modules, owner, item.name])]) for owner in owners]
 
 
