@@ -26,11 +26,11 @@ INDEX_MADE = "*All below this line is made by `tools/make_pages` from the commen
 CONTRACTS_MADE = "*All below this line is made by `tools/make_pages` from the contracts, the docs of laws, and the wrong bodies of all crates.*"
 # The words by which the sources name the examples of docs/ADDING.md.
 EXAMPLES = {
-    "an edit": r"\bGrow\b|\bgrow_named\b|grow_adds_a_copy_each|[\"']grow\b|\bgrow [A-Z0-9]",
-    "a refusal": r"\bTooFine\b|\basks_too_fine\b",
-    "a query": r"^(?:\w+ )*region_of :|\bfn region(?:_of)?\b|\bRegion\b(?! *[.])|[\"']region[ \"']|\bregion [A-Z0-9]|c\.region_of",
+    "an edit": r"\bGrow\b|\bgrow_named\b|grow_adds_a_copy_each|[\"']grow\b|\bgrow [A-Z0-9]|\bs2ix_grow\b|def grow\b|size_t grow\(",
+    "a refusal": r"\bTooFine\b|\basks_too_fine\b|\bS2IX_TOO_FINE\b",
+    "a query": r"^(?:\w+ )*region_of :|\bfn region(?:_of)?\b|\bRegion\b(?! *[.])|[\"']region[ \"']|\bregion [A-Z0-9]|c\.region_of|\bs2ix_region\b|def region\b| region\(std",
     "a refused query": r"\bNotLeaf\b|\bnot_leaf_name\b|\bat_(step|stays|prints)\b|\brun_at\b",
-    "a step": r"\b(Forget|after_forget)\b|[\"']forget\b|fn forget",
+    "a step": r"\b(Forget|after_forget)\b|[\"']forget\b|fn forget|\bs2ix_forget\w*|def forget\w*| forget\w*\(std",
 }
 # How many wrong bodies a row of docs/PROMISES.md names; of more it has the number.
 MOST_NAMED = 8

@@ -1,4 +1,4 @@
-"""The gate's wrong bodies: the fewest that name each clause once.
+"""The gate's wrong bodies: few of them, which together name each clause once.
 
 Of a function that its crate offers, each clause that some wrong body names is named once; of a function beneath, which has wrong bodies since it
 decides something that no clause above says by itself, one clause is. A body without a line `clause:` is always in the gate. No list is kept:

@@ -1,5 +1,5 @@
-//! What edits, undos and redos are made of: a bag after a change; its range table, for which only the faces that the change has entries on
-//! are read again; and a change that is shifted from one list to the other. What can want memory comes first, the table last of it.
+//! What edits, undos and redos are made of: a bag after a change; its range table, to which the bag hands its lists of the faces that the
+//! change has entries on; and a change that is shifted from one list to the other. What can want memory comes first, the table last of it.
 
 ghost use Rattle.std.specs.Prelude.{◌≡◌, ◌<◌, ◌≤◌, ◌+◌, ◌-◌, ◌*◌, drop, length, None, IfOk, IfErr, OnOk, OnErr, vec_capacity, vec_len};
 ghost use Rattle.s2ix_bag_lists.specs.Apply.{apply_refusal, first_mismatch};
