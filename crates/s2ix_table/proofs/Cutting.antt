@@ -2,8 +2,6 @@
 use Rattle.std.proofs.Common.{◌≡◌, ℕ, zero, suc, ◌+◌, ◌-◌, ◌*◌, ◌%◌, ◌<◌, ◌≤◌, inl, inr, List, [], ◌∷◌, ◌++◌, take, drop, get_or, length, refl, sym, ap, ap₂, ◌∙◌, subst, ⊎_elim, arith, append_assoc, Contains}
 use Rattle.std.proofs.lemmas.Bool.{cases_order}
 use Rattle.std.proofs.lemmas.List.{length-append, take-append-drop, take_all, drop_all, drop_more}
-use Rattle.std.specs.Arc.{arc_value}
-use Rattle.std.specs.declared.sync.Arc.{Arc}
 use Rattle.s2id_core.specs.CellId.{raw_of, first_of, end_of}
 use Rattle.s2id_core.specs.declared.cell_id.CellId.{CellId}
 use Rattle.s2id_core.proofs.Lists.{none_in_nil, at_head, in_tail, cons_cases}
@@ -20,7 +18,7 @@ use Rattle.s2ix_bag_pairs.specs.declared.pair.Pair.{Pair}
 use Rattle.s2ix_bag_pairs.proofs.Changes.{changed-append, changed_keeps_from, change_lower}
 use Rattle.s2ix_bag_pairs.proofs.Counts.{set_before, set_at, set_after}
 use Rattle.s2ix_table_spans.specs.SpanTable.{SpanRanges, IsInSpan}
-use Rattle.s2ix_table.specs.FaceSpans.{spans_of}
+use Rattle.s2ix_table.specs.FaceSpans.{spans_of, TablePart}
 use Rattle.s2ix_table.specs.Joined.{held_in, AreNeighbours}
 use Rattle.s2ix_table.specs.Parts.{EndsBy, BeginsFrom, EntriesEndBy, EntriesBeginFrom, AreBegins, IsChangedSpan, IsCut}
 use Rattle.s2ix_table.proofs.Appended.{below_cut, from_cut}
@@ -397,12 +395,12 @@ changed_same ts us ls ks es fs from m to n was e f g h k =
     (subst (λ (xs : List Collection). IsChangedSpan us xs es from to) (sym f)
     (subst (λ (xs : List SpanRanges). IsChangedSpan xs ls es from to) (sym e) was))))
 
-pub spans_taken : {Z : Type 0} (k : ℕ) (ts : List (Arc SpanRanges Z)) → spans_of (take k ts) ≡ take k (spans_of ts)
+pub spans_taken : (k : ℕ) (ts : List TablePart) → spans_of (take k ts) ≡ take k (spans_of ts)
 spans_taken zero ts = refl
 spans_taken (suc k) [] = refl
-spans_taken (suc k) (t ∷ ts) = ap (λ (xs : List SpanRanges). arc_value t ∷ xs) (spans_taken k ts)
+spans_taken (suc k) (t ∷ ts) = ap (λ (xs : List SpanRanges). t.table ∷ xs) (spans_taken k ts)
 
-pub spans_dropped : {Z : Type 0} (k : ℕ) (ts : List (Arc SpanRanges Z)) → spans_of (drop k ts) ≡ drop k (spans_of ts)
+pub spans_dropped : (k : ℕ) (ts : List TablePart) → spans_of (drop k ts) ≡ drop k (spans_of ts)
 spans_dropped zero ts = refl
 spans_dropped (suc k) [] = refl
 spans_dropped (suc k) (t ∷ ts) = spans_dropped k ts

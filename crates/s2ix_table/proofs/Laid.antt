@@ -4,7 +4,6 @@ use Rattle.std.proofs.lemmas.List.Elements.{Contains-append_left, Contains-appen
 use Rattle.s2ix_bag_pairs.specs.declared.pair.Held.{Held}
 use Rattle.s2ix_table_walk.proofs.Over.{in_contents}
 use Rattle.s2ix_table.proofs.Layers.{cells_part_pairs, together_rises}
-use Rattle.std.specs.declared.sync.Arc.{Arc}
 use Rattle.std.proofs.lemmas.List.{length-map}
 use Rattle.s2ix_bag_pairs.specs.Collection.{Collection, IsCollection}
 use Rattle.s2ix_table_walk.specs.Contents.{contents_at}
@@ -13,7 +12,7 @@ use Rattle.s2ix_table_spans.specs.SpanTable.{SpanRanges}
 use Rattle.s2ix_table_heavy.specs.declared.heavy_place.HeavyPlace.{HeavyPlace}
 use Rattle.std.specs.Prelude.{Option}
 use Rattle.s2ix_table.specs.declared.offset.Offset.{Offset}
-use Rattle.s2ix_table.specs.FaceSpans.{AreFirstParts, no_table, spans_of, starts_of, table_of}
+use Rattle.s2ix_table.specs.FaceSpans.{AreFirstParts, no_table, spans_of, starts_of, table_of, TablePart}
 use Rattle.s2ix_table.specs.Joined.{AreNeighbours, held_in, joined_ranges}
 use Rattle.s2ix_table.specs.Layered.{AreAllUnder, AreTold, IsLayout, cover, covered, heavy_in}
 use Rattle.s2ix_table.specs.Layers.{ShareNoCell, ShareNoPair, together, with_over}
@@ -57,8 +56,8 @@ after_covered heavy parts i j last one other =
     ∙ ap (λ (rs : List Range). offset_after last (table_of (covered heavy parts) i).ranges rs) (sym (covered_ranges heavy parts j other))
 
 -- the offset of a part that is read, by the one before it
-pub after_laid : {Z : Type 0} (parts : List (Arc SpanRanges Z)) (heavy : Collection) (last offset : Offset) (n : ℕ) (d e : Arc SpanRanges Z) (one next : SpanRanges)
-    → 0 < n → n < length parts → one ≡ (get_or parts (n - 1) d).value → next ≡ (get_or parts n e).value
+pub after_laid : (parts : List TablePart) (heavy : Collection) (last offset : Offset) (n : ℕ) (d e : TablePart) (one next : SpanRanges)
+    → 0 < n → n < length parts → one ≡ (get_or parts (n - 1) d).table → next ≡ (get_or parts n e).table
     → offset ≡ offset_after last (with_over (contents_at (table_of (spans_of parts) (n - 1)).from heavy) one.ranges)
     (with_over (contents_at (table_of (spans_of parts) n).from heavy) next.ranges)
     → offset ≡ offset_after last (table_of (covered heavy (spans_of parts)) (n - 1)).ranges (table_of (covered heavy (spans_of parts)) n).ranges

@@ -2,7 +2,6 @@
 use Rattle.std.proofs.Common.{◌≡◌, ◌↔◌, ℕ, ◌-◌, ◌<◌, Bool, true, false, ◌&&◌, nat_eq, IsTrue, Option, Some, None, List, length, get_or, option_map, refl, sym, ◌∙◌, ap, ap₂, arith}
 use Rattle.std.proofs.lemmas.Bool.{false≢true, and_parts, and_from}
 use Rattle.std.proofs.lemmas.Bool.Decides.{nat_tests}
-use Rattle.std.specs.declared.sync.Arc.{Arc}
 use Rattle.s2ix_bag_pairs.specs.Collection.{Collection}
 use Rattle.s2ix_table_walk.specs.Contents.{contents_at}
 use Rattle.s2ix_table_spans.specs.Once.{KeepsOnce}
@@ -10,10 +9,9 @@ use Rattle.s2ix_table_spans.specs.SpanTable.{SpanRanges}
 use Rattle.s2ix_table_heavy.proofs.OnePlace.{keeps_once}
 use Rattle.s2ix_table_heavy.specs.declared.heavy_place.HeavyPlace.{HeavyPlace}
 use Rattle.s2ix_table.specs.declared.part_place.FaceHeavyPlace.{FaceHeavyPlace}
-use Rattle.s2ix_table.specs.FaceSpans.{spans_of, table_of}
+use Rattle.s2ix_table.specs.FaceSpans.{spans_of, table_of, TablePart}
 use Rattle.s2ix_table.specs.Layered.{IsLayout, chunks_on, face_with, heavy_in}
 use Rattle.s2ix_table.specs.PartPlaces.{face_chain, faced_chain, place_of_face}
-use Rattle.s2ix_table.proofs.HeavyFaces.{many_led}
 use Rattle.s2ix_table.proofs.HeavyOnce.{heavy_once, over_is, over_of, same_overs}
 use Rattle.s2ix_table.proofs.Once.{faced_once}
 use Rattle.s2ix_table.proofs.Shared.{many_shared}
@@ -53,7 +51,7 @@ laid_told {parts} {heavy} {overs} i j a b same is one other is_a is_b told =
     )
 
 -- the same of a part that is read, and the one before it
-pub read_told : {Z : Type 0} (parts : List (Arc SpanRanges Z)) {heavy : List (List Collection)} {overs : List (Option HeavyPlace)} (n : ℕ)
+pub read_told : (parts : List TablePart) {heavy : List (List Collection)} {overs : List (Option HeavyPlace)} (n : ℕ)
     (a b : Option HeavyPlace) (same : Bool) → IsLayout (spans_of parts) heavy overs → n < length parts → get_or overs (n - 1) None ≡ a
     → get_or overs n None ≡ b
     → IsTrue same ↔ (option_map (place_of_face (face_with (table_of (spans_of parts) (n - 1)).from)) a
@@ -62,14 +60,6 @@ pub read_told : {Z : Type 0} (parts : List (Arc SpanRanges Z)) {heavy : List (Li
 read_told parts {heavy} {overs} n a b same is lt is_a is_b told =
     let many = many_shared parts in
     laid_told (n - 1) n a b same is (omega arith) (omega arith) is_a is_b told
-
--- for each part that is read there is a place over it, or none
-pub read_over : {Z : Type 0} (parts : List (Arc SpanRanges Z)) {heavy : List (List Collection)} {overs : List (Option HeavyPlace)} (n : ℕ)
-    → IsLayout (spans_of parts) heavy overs → n < length parts → n < length overs
-read_over parts {heavy} {overs} n is lt =
-    let many = many_led heavy (spans_of parts) overs is.layered.led in
-    let shared = many_shared parts in
-    omega arith
 
 same_numbers : (a b : ℕ) → IsTrue (nat_eq a b) → a ≡ b
 same_numbers a b t = grind (arith, nat_tests)

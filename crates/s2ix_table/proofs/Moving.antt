@@ -4,18 +4,16 @@ use Rattle.std.proofs.lemmas.Bool.{cases_Bool, cond-true, cond-false}
 use Rattle.std.proofs.lemmas.List.{drop-drop, drop-set-lt, get_or-drop, get_or-set_other, get_or-take, length-drop, length-set, take-append-drop, take_all}
 use Rattle.std.proofs.lemmas.Grind.{take-set_at}
 use Rattle.std.proofs.Math.Seq.{take-suc}
-use Rattle.std.specs.declared.sync.Arc.{Arc}
 use Rattle.s2ix_bag_pairs.specs.Collection.{Collection}
 use Rattle.s2ix_table_walk.specs.Table.{Range, range_at, leaf_end}
 use Rattle.s2ix_table_spans.specs.SpanTable.{SpanRanges}
 use Rattle.s2ix_table.specs.declared.offset.Offset.{Offset}
-use Rattle.s2ix_table.specs.FaceSpans.{no_table, spans_of, table_of}
+use Rattle.s2ix_table.specs.FaceSpans.{no_table, table_of}
 use Rattle.s2ix_table.specs.Offsets.{is_joined, last_start, moved, offset_after, offset_at, offsets_from, offsets_of, AreMovable, AreOffsetsFrom}
 use Rattle.s2ix_table.proofs.Neighbours.{AreOverSpans}
 use Rattle.s2ix_table.proofs.Offsets.{length_offsets, offset_next}
 use Rattle.s2ix_table.proofs.OneFace.{first_alone}
 use Rattle.s2ix_table.proofs.Reading.{first_offset, no_offset}
-use Rattle.s2ix_table.proofs.Shared.{seen_at}
 use Rattle.s2ix_table.proofs.Together.{ends_few}
 
 -- ---- one offset
@@ -174,16 +172,6 @@ next_right parts os offset n some lt many before is =
     ∙ ap (λ k. offset_after (offset_at (offsets_of parts) (n - 1)) (table_of parts (n - 1)).ranges (table_of parts k).ranges) (sym e)
     ∙ sym (offset_next first_offset parts (n - 1) no_table no_offset (omega arith))
     ∙ ap (offset_at (offsets_of parts)) e
-
--- the tables are those that are read
-pub after_read : {Z : Type 0} (parts : List (Arc SpanRanges Z)) (last offset : Offset) (n : ℕ) (d e : Arc SpanRanges Z) (one next : SpanRanges)
-    → 0 < n → n < length parts → one ≡ (get_or parts (n - 1) d).value → next ≡ (get_or parts n e).value
-    → offset ≡ offset_after last one.ranges next.ranges
-    → offset ≡ offset_after last (table_of (spans_of parts) (n - 1)).ranges (table_of (spans_of parts) n).ranges
-after_read parts last offset n d e one next some lt is_one is_next is =
-    is
-    ∙ ap₂ (λ (s t : SpanRanges). offset_after last s.ranges t.ranges) (seen_at parts (n - 1) d one (omega arith) is_one)
-    (seen_at parts n e next lt is_next)
 
 -- the last right place is not too great
 pub last_few : (held : Collection) (parts : List SpanRanges) (os : List Offset) (n : ℕ) → AreOverSpans held 1 parts leaf_end → length held ≤ 1000000

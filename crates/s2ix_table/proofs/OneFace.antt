@@ -1,16 +1,11 @@
 -- Some elements of a list give way to others.
-use Rattle.std.proofs.Common.{◌≡◌, ℕ, zero, suc, ◌+◌, ◌-◌, ◌<◌, ◌≤◌, List, [], ◌∷◌, ◌++◌, length, take, drop, refl, sym, ◌∙◌, ap, ap₂, arith}
-use Rattle.std.proofs.lemmas.List.{length-append, length-drop, length-take-le, map-append}
-use Rattle.std.specs.Arc.{arc_value}
-use Rattle.std.specs.declared.sync.Arc.{Arc}
+use Rattle.std.proofs.Common.{◌≡◌, ℕ, zero, suc, ◌+◌, ◌-◌, ◌<◌, ◌≤◌, List, [], ◌∷◌, ◌++◌, length, take, drop, refl, sym, ◌∙◌, ap, arith}
+use Rattle.std.proofs.lemmas.List.{length-append, length-drop, length-take-le}
 use Rattle.s2ix_table_walk.specs.Table.{leaf_end}
 use Rattle.s2ix_table_spans.specs.SpanTable.{SpanRanges}
 use Rattle.s2ix_table.specs.declared.offset.Offset.{Offset}
-use Rattle.s2ix_table.specs.FaceSpans.{spans_of}
 use Rattle.s2ix_table.specs.Joined.{AreNeighbours}
 use Rattle.s2ix_table.specs.Offsets.{offset_after, offsets_from}
-use Rattle.s2ix_table.specs.Parts.{with_parts}
-use Rattle.s2ix_table.proofs.Cutting.{spans_taken, spans_dropped}
 
 -- ---- some elements give way to others
 
@@ -23,14 +18,6 @@ pub drop_on : {A : Type 0} (a n : ℕ) (xs : List A) → drop n (drop a xs) ≡ 
 drop_on zero n xs = ap (λ k. drop k xs) (let e : n ≡ 0 + n = omega arith in e)
 drop_on (suc a) n [] = drop_none n [] refl ∙ sym (drop_none (suc a + n) [] refl)
 drop_on (suc a) n (x ∷ xs) = drop_on a n xs ∙ ap (λ k. drop k (x ∷ xs)) (let e : suc (a + n) ≡ suc a + n = omega arith in e)
-
--- what shared tables show then
-pub spans_with : {Z : Type 0} (parts made : List (Arc SpanRanges Z)) (f e : ℕ)
-    → spans_of (take f parts ++ (made ++ drop e parts)) ≡ with_parts (spans_of parts) f e (spans_of made)
-spans_with parts made f e =
-    map-append arc_value (take f parts) (made ++ drop e parts)
-    ∙ ap (λ xs. spans_of (take f parts) ++ xs) (map-append arc_value made (drop e parts))
-    ∙ ap₂ (λ xs ys. xs ++ (spans_of made ++ ys)) (spans_taken f parts) (spans_dropped e parts)
 
 -- the offsets of those before them stay
 pub first_alone : (o : Offset) (t : SpanRanges) (ts : List SpanRanges) → take 1 (offsets_from o (t ∷ ts)) ≡ o ∷ []

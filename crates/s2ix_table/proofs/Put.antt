@@ -1,23 +1,42 @@
 -- Parts that give way to others, with their offsets and where they begin.
 use Rattle.std.proofs.Common.{◌≡◌, ℕ, ◌+◌, ◌≤◌, List, ◌++◌, length, take, drop, get_or, sym, ◌∙◌, ap, ap₂, arith}
 use Rattle.std.proofs.lemmas.List.{drop-map, get_or-drop, map-append, take-map}
-use Rattle.std.specs.declared.sync.Arc.{Arc}
 use Rattle.s2ix_table_spans.specs.SpanTable.{SpanRanges}
 use Rattle.s2ix_table.specs.declared.offset.Offset.{Offset}
-use Rattle.s2ix_table.specs.FaceSpans.{spans_of, starts_of}
+use Rattle.s2ix_table.specs.FaceSpans.{TablePart, overs_of, spans_of, starts_of}
 use Rattle.s2ix_table.specs.Offsets.{offset_at, offsets_from, offsets_of, AreOffsetsFrom}
 use Rattle.s2ix_bag_pairs.specs.Collection.{Collection}
 use Rattle.s2ix_table.specs.Layered.{cover, covered}
 use Rattle.s2ix_table.specs.Parts.{with_parts}
 use Rattle.s2ix_table.proofs.Moving.{own_behind}
 use Rattle.s2ix_table.proofs.Offsets.{length_offsets}
-use Rattle.s2ix_table.proofs.OneFace.{length_with, offsets_front, spans_with}
+use Rattle.s2ix_table.proofs.OneFace.{length_with, offsets_front}
 use Rattle.s2ix_table.proofs.Reading.{first_offset, no_offset}
 use Rattle.s2ix_table.proofs.Replaced.{before_new, behind_new, mapped, replaced_in}
+use Rattle.s2ix_table.proofs.Shared.{overs_more, spans_append}
 
-pub put_spans : {Z : Type 0} (old same now made : List (Arc SpanRanges Z)) (f e : ℕ) → same ≡ old → now ≡ take f same ++ (made ++ drop e same)
+pub put_spans : (old same now made : List TablePart) (f e : ℕ) → same ≡ old → now ≡ take f same ++ (made ++ drop e same)
     → spans_of now ≡ with_parts (spans_of old) f e (spans_of made)
-put_spans old same now made f e is put = ap (λ ts. spans_of ts) (replaced_in old same now made f e is put) ∙ spans_with old made f e
+put_spans old same now made f e is put =
+    ap (λ ts. spans_of ts) (replaced_in old same now made f e is put) ∙ mapped (λ (p : TablePart). p.table) old made f e
+
+pub put_overs : (old same now made : List TablePart) (f e : ℕ) → same ≡ old → now ≡ take f same ++ (made ++ drop e same)
+    → overs_of now ≡ take f (overs_of old) ++ (overs_of made ++ drop e (overs_of old))
+put_overs old same now made f e is put =
+    ap (λ ts. overs_of ts) (replaced_in old same now made f e is put) ∙ mapped (λ (p : TablePart). p.over) old made f e
+
+-- parts behind others, some of them new
+pub pushed_spans : (old now made before : List TablePart) (f e : ℕ) → now ≡ old ++ (take f before ++ (made ++ drop e before))
+    → spans_of now ≡ spans_of old ++ with_parts (spans_of before) f e (spans_of made)
+pushed_spans old now made before f e put =
+    ap (λ ts. spans_of ts) put ∙ spans_append old (take f before ++ (made ++ drop e before))
+    ∙ ap (λ ts. spans_of old ++ ts) (mapped (λ (p : TablePart). p.table) before made f e)
+
+pub pushed_overs : (old now made before : List TablePart) (f e : ℕ) → now ≡ old ++ (take f before ++ (made ++ drop e before))
+    → overs_of now ≡ overs_of old ++ (take f (overs_of before) ++ (overs_of made ++ drop e (overs_of before)))
+pushed_overs old now made before f e put =
+    ap (λ ts. overs_of ts) put ∙ overs_more old (take f before ++ (made ++ drop e before))
+    ∙ ap (λ os. overs_of old ++ os) (mapped (λ (p : TablePart). p.over) before made f e)
 
 pub put_starts : (spans made : List SpanRanges) (same now begins : List ℕ) (f e : ℕ) → same ≡ starts_of spans → begins ≡ starts_of made
     → now ≡ take f same ++ (begins ++ drop e same) → now ≡ starts_of (with_parts spans f e made)

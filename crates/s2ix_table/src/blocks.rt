@@ -5,11 +5,10 @@ ghost use Rattle.s2ix_table_walk.specs.Table.{leaf_end};
 ghost use Rattle.s2ix_table.specs.AllLeaves.{HaveAllLeaves};
 ghost use Rattle.s2ix_table.specs.FaceSpans.{spans_of, starts_of};
 
+use crate::part::Part;
 use s2id_core::{LEAF_END, OutOfMemory};
-use s2ix_table_spans::SpanTable;
 use s2ix_table_walk::Window;
 use std::alloc::Global;
-use std::sync::Arc;
 
 // All leaves in blocks of 2 ^ `shift` leaf numbers each, and for each block the last part that begins at or before its first number. One
 // block more follows the last leaf.
@@ -53,7 +52,7 @@ impl Blocks {
     }
 
     // Takes these blocks in place of its own, if there are some, and counts them.
-    pub(crate) fn give_way(&mut self, room: Option<Blocks>, starts: &[u64])
+    pub(crate) fn replace(&mut self, room: Option<Blocks>, starts: &[u64])
         requires stay { room ≡ None → AreBlocks starts.now self.old }
         requires some { 0 < length starts.now }
         requires first { slice_index_or starts.now 0 0 ≡ 1 }
@@ -132,7 +131,7 @@ fn count_lasts(lasts: &mut [usize], starts: &[u64], size: u64)
 }
 
 // Whether parts begin at these leaves. O(k) for k of them.
-fn begin_at(parts: &[Arc<SpanTable>], starts: &[u64]) -> bool
+fn begin_at(parts: &[Part], starts: &[u64]) -> bool
     ensures { IsTrue result → starts_of (spans_of parts.now) ≡ starts.now }
 {
     if parts.len() != starts.len() {
@@ -140,7 +139,7 @@ fn begin_at(parts: &[Arc<SpanTable>], starts: &[u64]) -> bool
     }
     let mut part = 0;
     while part < parts.len() {
-        if parts[part].from() != starts[part] {
+        if parts[part].table().from() != starts[part] {
             return false;
         }
         part += 1;
@@ -154,7 +153,7 @@ pub(crate) fn room_for(
     alloc: Global,
     count: usize,
     starts: &[u64],
-    parts: &[Arc<SpanTable>],
+    parts: &[Part],
 ) -> Result<Option<Blocks>, OutOfMemory>
     ensures { IfOk result (λ room. room ≡ None → starts_of (spans_of parts.now) ≡ starts.now) }
 {

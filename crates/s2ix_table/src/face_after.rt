@@ -3,7 +3,7 @@ ghost use Rattle.std.specs.Prelude.{◌≡◌, ◌++◌, ◌<◌, ◌≤◌, ◌
 ghost use Rattle.s2ix_bag_lists.specs.Faces.{all_of};
 ghost use Rattle.s2ix_bag_pairs.specs.Change.{IsChangeList, changed};
 ghost use Rattle.s2ix_bag_pairs.specs.Collection.{IsCollection};
-ghost use Rattle.s2ix_table.specs.FaceSpans.{AreOnFace, face_begin, spans_of};
+ghost use Rattle.s2ix_table.specs.FaceSpans.{AreOnFace, face_begin, overs_of, spans_of, tables_of};
 ghost use Rattle.s2ix_table.specs.Joined.{AreNeighbours, held_in};
 ghost use Rattle.s2ix_table.specs.Layered.{IsFaceLayered, IsFaceWith};
 ghost use Rattle.s2ix_table.specs.Layers.{together};
@@ -12,27 +12,24 @@ ghost use Rattle.s2ix_table.specs.Parts.{with_parts};
 use crate::face_parts::{FaceParts, face_parts, has_large};
 use crate::heavy_pairs::HeavyPairs;
 use crate::new_parts::{NewFace, NewParts};
-use crate::parts_changed::{last_by, parts_after};
+use crate::part::{Part, share_under};
+use crate::parts_changed::{changed_parts, last_by};
 use s2id_core::{CellId, FACE_NUMBERS, OutOfMemory};
 use s2ix_bag_lists::HeldParts;
 use s2ix_bag_pairs::Entry;
-use s2ix_table_heavy::HeavyPlace;
-use s2ix_table_spans::SpanTable;
 use std::alloc::Global;
-use std::sync::Arc;
 
-// A face of a table: its parts, for each the place that leads to the heavy pairs over it, and the heavy pairs.
+// A face of a table: its parts, and the heavy pairs over them.
 #[derive(Clone, Copy)]
 pub(crate) struct Face<'a> {
     pub(crate) face: u8,
-    pub(crate) parts: &'a [Arc<SpanTable>],
-    pub(crate) overs: &'a [Option<HeavyPlace>],
+    pub(crate) parts: &'a [Part],
     pub(crate) heavy: &'a HeavyPairs,
 }
 
 impl Face<'_> {
     // What a change makes of the face: `entries` are those that it has there, and `held` has the face's pairs then. There are four ways, of
-    // which the first that does it is taken. Without heavy pairs, `parts_after` makes only the parts anew that the entries touch, which
+    // which the first that does it is taken. Without heavy pairs, `changed_parts` makes only the parts anew that the entries touch, which
     // share lists of `held`; but none of them may be large. If all entries are of light cells, `light_after` makes the parts anew from the
     // first to the last that they touch. If an entry's cell goes over parts with many pairs, both would do their work in vain, and are left
     // out. If cells have heavy pairs or go over several parts, `layers_after` puts their pairs into chunks, and makes only the chunks and
@@ -45,24 +42,24 @@ impl Face<'_> {
         entries: &[Entry],
     ) -> Result<NewFace, OutOfMemory>
         requires six { self.face < 6 }
-        requires layered { IsFaceLayered self.face self.heavy.now (spans_of self.parts.now) self.overs.now }
+        requires layered { IsFaceLayered self.face self.heavy.now (spans_of self.parts.now) (overs_of self.parts.now) }
         requires made { changed (together (held_in (spans_of self.parts.now)) (all_of self.heavy.now)) entries.now ≡ held.now }
         requires entries_rise { IsChangeList entries.now }
         requires rises { IsCollection held.now }
         requires within_limit { length held.now ≤ 1000000 }
         requires on_face { AreOnFace self.face held.now }
         ensures face { IfOk result (λ new. new.face ≡ self.entry.face) }
-        ensures with { IfOk result (λ new. IsFaceWith self.entry.face held.now (spans_of self.entry.parts.now) self.entry.overs.now
-            new.parts.first new.parts.end (spans_of new.parts.parts.items) new.overs.items new.heavy) }
-        ensures before { IfOk result (λ new. 0 < new.parts.first → new.heavy ≡ self.entry.heavy.now) }
-        ensures behind { IfOk result (λ new. new.parts.end < length (spans_of self.entry.parts.now) → new.heavy ≡ self.entry.heavy.now) }
+        ensures with { IfOk result (λ new. IsFaceWith self.entry.face held.now (spans_of self.entry.parts.now) (overs_of self.entry.parts.now)
+            new.first new.end (spans_of new.parts.items) (overs_of new.parts.items) new.heavy) }
+        ensures before { IfOk result (λ new. 0 < new.first → new.heavy ≡ self.entry.heavy.now) }
+        ensures behind { IfOk result (λ new. new.end < length (spans_of self.entry.parts.now) → new.heavy ≡ self.entry.heavy.now) }
     {
         let max_part_len = held.max_part_len();
         if !has_wide(self.parts, entries, max_part_len) {
             if self.heavy.is_empty() {
-                let parts = self.parts_after(alloc, held, entries)?;
-                if !has_large(&parts.parts, max_part_len) {
-                    return self.with_light(alloc, parts);
+                let new = self.parts_after(alloc, held, entries)?;
+                if !has_large(&new.parts, max_part_len) {
+                    return self.with_light(alloc, &new);
                 }
             }
             if let Some(new) = self.light_after(alloc, entries, max_part_len)? {
@@ -92,13 +89,13 @@ impl Face<'_> {
         ensures order { IfOk result (λ new. new.first ≤ new.end) }
         ensures within { IfOk result (λ new. new.end ≤ length (spans_of self.entry.parts.now)) }
         ensures neighbours { IfOk result (λ new. AreNeighbours (face_begin self.entry.face)
-            (with_parts (spans_of self.entry.parts.now) new.first new.end (spans_of new.parts.items))
+            (with_parts (spans_of self.entry.parts.now) new.first new.end (tables_of new.parts.items))
             (face_begin (self.entry.face + 1))) }
-        ensures pairs { IfOk result (λ new. held_in (with_parts (spans_of self.entry.parts.now) new.first new.end (spans_of new.parts.items))
+        ensures pairs { IfOk result (λ new. held_in (with_parts (spans_of self.entry.parts.now) new.first new.end (tables_of new.parts.items))
             ≡ held.now) }
     {
         let from = u64::from(self.face) * FACE_NUMBERS + 1;
-        parts_after(
+        changed_parts(
             alloc,
             self.parts,
             held.parts(),
@@ -108,26 +105,28 @@ impl Face<'_> {
         )
     }
 
-    // The face with these parts in the place of others, without heavy pairs.
-    fn with_light(self, alloc: Global, parts: NewParts) -> Result<NewFace, OutOfMemory>
-        requires layered { IsFaceLayered self.face [] (spans_of self.parts.now) self.overs.now }
-        requires order { parts.first ≤ parts.end }
-        requires within { parts.end ≤ length (spans_of self.parts.now) }
+    // The face with new parts in the place of others, without heavy pairs.
+    fn with_light(self, alloc: Global, new: &NewParts) -> Result<NewFace, OutOfMemory>
+        requires layered { IsFaceLayered self.face [] (spans_of self.parts.now) (overs_of self.parts.now) }
+        requires order { new.now.first ≤ new.now.end }
+        requires within { new.now.end ≤ length (spans_of self.parts.now) }
         requires neighbours { AreNeighbours (face_begin self.face)
-            (with_parts (spans_of self.parts.now) parts.first parts.end (spans_of parts.parts.items))
+            (with_parts (spans_of self.parts.now) new.now.first new.now.end (tables_of new.now.parts.items))
             (face_begin (self.face + 1)) }
-        ensures face { IfOk result (λ new. new.face ≡ self.entry.face) }
-        ensures heavy { IfOk result (λ new. new.heavy ≡ []) }
-        ensures with { IfOk result (λ new. IsFaceWith self.entry.face
-            (held_in (with_parts (spans_of self.entry.parts.now) parts.first parts.end (spans_of parts.parts.items)))
-            (spans_of self.entry.parts.now) self.entry.overs.now
-            new.parts.first new.parts.end (spans_of new.parts.parts.items) new.overs.items new.heavy) }
+        ensures face { IfOk result (λ face. face.face ≡ self.entry.face) }
+        ensures heavy { IfOk result (λ face. face.heavy ≡ []) }
+        ensures with { IfOk result (λ face. IsFaceWith self.entry.face
+            (held_in (with_parts (spans_of self.entry.parts.now) new.now.first new.now.end (tables_of new.now.parts.items)))
+            (spans_of self.entry.parts.now) (overs_of self.entry.parts.now)
+            face.first face.end (spans_of face.parts.items) (overs_of face.parts.items) face.heavy) }
     {
-        let overs = Vec::from_elem(alloc, None, parts.parts.len())?;
+        let mut parts = Vec::with_capacity(alloc, new.parts.len())?;
+        share_under(&mut parts, &new.parts, None)?;
         Ok(NewFace {
             face: usize::from(self.face),
+            first: new.first,
+            end: new.end,
             parts,
-            overs,
             heavy: HeavyPairs::none(),
         })
     }
@@ -135,15 +134,14 @@ impl Face<'_> {
     // All pairs of the face are layered anew: all its parts give way.
     fn made_anew(self, alloc: Global, held: &HeldParts) -> Result<NewFace, OutOfMemory>
         requires six { self.face < 6 }
-        requires overs { length self.overs.now ≡ length (spans_of self.parts.now) }
         requires rises { IsCollection held.now }
         requires within_limit { length held.now ≤ 1000000 }
         requires on_face { AreOnFace self.face held.now }
         ensures face { IfOk result (λ new. new.face ≡ self.entry.face) }
-        ensures first { IfOk result (λ new. new.parts.first ≡ 0) }
-        ensures end { IfOk result (λ new. new.parts.end ≡ length (spans_of self.entry.parts.now)) }
-        ensures with { IfOk result (λ new. IsFaceWith self.entry.face held.now (spans_of self.entry.parts.now) self.entry.overs.now
-            new.parts.first new.parts.end (spans_of new.parts.parts.items) new.overs.items new.heavy) }
+        ensures first { IfOk result (λ new. new.first ≡ 0) }
+        ensures end { IfOk result (λ new. new.end ≡ length (spans_of self.entry.parts.now)) }
+        ensures with { IfOk result (λ new. IsFaceWith self.entry.face held.now (spans_of self.entry.parts.now) (overs_of self.entry.parts.now)
+            new.first new.end (spans_of new.parts.items) (overs_of new.parts.items) new.heavy) }
     {
         let new = all_anew(alloc, held, self.face, self.parts.len())?;
         Ok(new)
@@ -151,44 +149,41 @@ impl Face<'_> {
 
     // The face as it is: no part gives way.
     pub(crate) fn unchanged(self, alloc: Global) -> Result<NewFace, OutOfMemory>
-        requires { IsFaceLayered self.face self.heavy.now (spans_of self.parts.now) self.overs.now }
+        requires { IsFaceLayered self.face self.heavy.now (spans_of self.parts.now) (overs_of self.parts.now) }
         ensures face { IfOk result (λ new. new.face ≡ self.entry.face) }
         ensures heavy { IfOk result (λ new. new.heavy ≡ self.entry.heavy.now) }
         ensures with { IfOk result (λ new. IsFaceWith self.entry.face
             (together (held_in (spans_of self.entry.parts.now)) (all_of self.entry.heavy.now))
-            (spans_of self.entry.parts.now) self.entry.overs.now
-            new.parts.first new.parts.end (spans_of new.parts.parts.items) new.overs.items new.heavy) }
+            (spans_of self.entry.parts.now) (overs_of self.entry.parts.now)
+            new.first new.end (spans_of new.parts.items) (overs_of new.parts.items) new.heavy) }
     {
         let heavy = self.heavy.clone()?;
         Ok(NewFace {
             face: usize::from(self.face),
-            parts: NewParts {
-                first: 0,
-                end: 0,
-                parts: Vec::new(alloc),
-            },
-            overs: Vec::new(alloc),
+            first: 0,
+            end: 0,
+            parts: Vec::new(alloc),
             heavy,
         })
     }
 }
 
 // Whether the cell of an entry is wide. O(log p + q) for each entry, p parts and the q parts of its cell that have at most `max_part_len` pairs.
-fn has_wide(parts: &[Arc<SpanTable>], entries: &[Entry], max_part_len: usize) -> bool {
+fn has_wide(parts: &[Part], entries: &[Entry], max_part_len: usize) -> bool {
     entries
         .iter()
         .any(|entry| is_wide(parts, entry.pair.cell, max_part_len))
 }
 
 // Whether parts that lie wholly within a cell have more than `max_part_len` pairs. No clause says so: it only saves work.
-fn is_wide(parts: &[Arc<SpanTable>], cell: CellId, max_part_len: usize) -> bool {
+fn is_wide(parts: &[Part], cell: CellId, max_part_len: usize) -> bool {
     let end = cell.span_end();
     let mut count = 0_usize;
     for next in last_by(parts, cell.span_start()) + 2..parts.len() {
-        if parts[next].from() > end {
+        if parts[next].table().from() > end {
             return false;
         }
-        count = count.saturating_add(parts[next - 1].pair_count());
+        count = count.saturating_add(parts[next - 1].table().pair_count());
         if count > max_part_len {
             return true;
         }
@@ -209,24 +204,17 @@ pub(crate) fn all_anew(
     requires within_limit { length held.now ≤ 1000000 }
     requires on_face { AreOnFace face held.now }
     ensures face { IfOk result (λ new. new.face ≡ face) }
-    ensures first { IfOk result (λ new. new.parts.first ≡ 0) }
-    ensures end { IfOk result (λ new. new.parts.end ≡ count) }
-    ensures layered { IfOk result (λ new. IsFaceLayered face new.heavy (spans_of new.parts.parts.items) new.overs.items) }
-    ensures pairs { IfOk result (λ new. together (held_in (spans_of new.parts.parts.items)) (all_of new.heavy) ≡ held.now) }
+    ensures first { IfOk result (λ new. new.first ≡ 0) }
+    ensures end { IfOk result (λ new. new.end ≡ count) }
+    ensures layered { IfOk result (λ new. IsFaceLayered face new.heavy (spans_of new.parts.items) (overs_of new.parts.items)) }
+    ensures pairs { IfOk result (λ new. together (held_in (spans_of new.parts.items)) (all_of new.heavy) ≡ held.now) }
 {
-    let FaceParts {
-        parts,
-        overs,
-        heavy,
-    } = face_parts(alloc, held, face)?;
+    let FaceParts { parts, heavy } = face_parts(alloc, held, face)?;
     Ok(NewFace {
         face: usize::from(face),
-        parts: NewParts {
-            first: 0,
-            end: count,
-            parts,
-        },
-        overs,
+        first: 0,
+        end: count,
+        parts,
         heavy,
     })
 }

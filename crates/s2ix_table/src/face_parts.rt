@@ -6,27 +6,26 @@ ghost use Rattle.s2ix_bag_pairs.specs.Collection.{AreBelow, IsCollection, IsColl
 ghost use Rattle.s2ix_bag_pairs.specs.Pair.{rank_of};
 ghost use Rattle.s2ix_table_spans.specs.SpanTable.{IsInSpan};
 ghost use Rattle.s2ix_table_heavy.specs.Chunks.{AreChunks};
-ghost use Rattle.s2ix_table.specs.FaceSpans.{AreOnFace, spans_of};
+ghost use Rattle.s2ix_table.specs.FaceSpans.{AreOnFace, overs_of, spans_of, tables_of};
 ghost use Rattle.s2ix_table.specs.Joined.{AreNeighbours, held_in};
 ghost use Rattle.s2ix_table.specs.Layered.{AreLightParts, IsFaceLayered};
 ghost use Rattle.s2ix_table.specs.Layers.{together};
 
 use crate::heavy_pairs::HeavyPairs;
+use crate::part::{Part, share_under};
 use crate::parts::{greatest_end, least_begin, parts_over};
 use crate::split::{Layers, split};
 use s2id_core::{FACE_NUMBERS, OutOfMemory};
 use s2ix_bag_lists::{FlatHeld, HeldParts};
 use s2ix_bag_pairs::Pair;
-use s2ix_table_heavy::HeavyPlace;
 use s2ix_table_spans::SpanTable;
 use std::alloc::Global;
 use std::sync::Arc;
 
-// Both layers, and for each part the place that leads to the heavy pairs over it.
+// Both layers.
 #[derive(Debug, Drop)]
 pub(crate) struct FaceParts {
-    pub(crate) parts: Vec<Arc<SpanTable>>,
-    pub(crate) overs: Vec<Option<HeavyPlace>>,
+    pub(crate) parts: Vec<Part>,
     pub(crate) heavy: HeavyPairs,
 }
 
@@ -43,42 +42,43 @@ pub(crate) fn face_parts(
     requires rises { IsCollection held.now }
     requires within_limit { length held.now ≤ 1000000 }
     requires on_face { AreOnFace face held.now }
-    ensures layered { IfOk result (λ f. IsFaceLayered face f.heavy (spans_of f.parts.items) f.overs.items) }
+    ensures layered { IfOk result (λ f. IsFaceLayered face f.heavy (spans_of f.parts.items) (overs_of f.parts.items)) }
     ensures pairs { IfOk result (λ f. together (held_in (spans_of f.parts.items)) (all_of f.heavy) ≡ held.now) }
 {
     let from = u64::from(face) * FACE_NUMBERS + 1;
     let to = from + FACE_NUMBERS;
-    let parts = parts_over(alloc, held.parts(), from, to)?;
+    let tables = parts_over(alloc, held.parts(), from, to)?;
     let max_part_len = held.max_part_len();
-    if has_large(parts.as_slice(), max_part_len) {
+    if has_large(tables.as_slice(), max_part_len) {
         let all = held.flat(alloc)?;
         let layers = split(alloc, all.as_slice(), max_part_len)?;
         if let Some(layered) = layered(alloc, layers, from, to, max_part_len)? {
             return Ok(layered);
         }
     }
-    plain(alloc, parts)
+    plain(alloc, tables.as_slice())
 }
 
-// Whether a part has more than twice `max_part_len` pairs. No clause says so: it only saves work. O(p) for p parts.
-pub(crate) fn has_large(parts: &[Arc<SpanTable>], max_part_len: usize) -> bool {
-    parts.iter().any(|part| part.pair_count() > max_part_len
-        && part.pair_count() - max_part_len > max_part_len)
+// Whether a table has more than twice `max_part_len` pairs. No clause says so: it only saves work. O(p) for p tables.
+pub(crate) fn has_large(tables: &[Arc<SpanTable>], max_part_len: usize) -> bool {
+    tables.iter().any(|table| is_large(table, max_part_len))
 }
 
-// All pairs are light, in these parts. O(p) for p parts. `OutOfMemory` if a growth is refused.
-fn plain(alloc: Global, parts: Vec<Arc<SpanTable>>) -> Result<FaceParts, OutOfMemory>
-    ensures parts { IfOk result (λ f. f.parts ≡ parts) }
+// Whether a table has more than twice `max_part_len` pairs. No clause says so: it only saves work.
+pub(crate) fn is_large(table: &SpanTable, max_part_len: usize) -> bool {
+    table.pair_count() > max_part_len && table.pair_count() - max_part_len > max_part_len
+}
+
+// All pairs are light, in parts of these tables. O(p) for p parts. `OutOfMemory` if a growth is refused, or a table is shared too often.
+fn plain(alloc: Global, tables: &[Arc<SpanTable>]) -> Result<FaceParts, OutOfMemory>
+    ensures parts { IfOk result (λ f. spans_of f.parts.items ≡ tables_of tables.now) }
     ensures heavy { IfOk result (λ f. f.heavy ≡ []) }
-    ensures overs { IfOk result (λ f. f.overs.items ≡ replicate (length parts.items) None) }
+    ensures overs { IfOk result (λ f. overs_of f.parts.items ≡ replicate (length (tables_of tables.now)) None) }
 {
-    let overs = Vec::from_elem(alloc, None, parts.len())?;
+    let mut parts = Vec::with_capacity(alloc, tables.len())?;
+    share_under(&mut parts, tables, None)?;
     let heavy = HeavyPairs::none();
-    Ok(FaceParts {
-        parts,
-        overs,
-        heavy,
-    })
+    Ok(FaceParts { parts, heavy })
 }
 
 // The two layers of a split, over the leaves from one number up to another: the light pairs in parts of at most `max_part_len`, if they can be cut.
@@ -97,7 +97,7 @@ fn layered(
     requires chunks { AreChunks layers.chunks.items }
     ensures heavy { IfOk result (λ made. IfSome made (λ f. f.heavy ≡ layers.chunks.items)) }
     ensures parts { IfOk result (λ made. IfSome made (λ f.
-        AreLightParts layers.chunks.items layers.light.items from (spans_of f.parts.items) f.overs.items to)) }
+        AreLightParts layers.chunks.items layers.light.items from (spans_of f.parts.items) (overs_of f.parts.items) to)) }
 {
     let heavy = HeavyPairs::over(alloc, layers.chunks)?;
     over_spans(
@@ -125,10 +125,9 @@ pub(crate) fn over_spans(
     requires leaves { to ≤ leaf_end }
     ensures heavy { IfOk result (λ made. IfSome made (λ f. f.heavy ≡ heavy)) }
     ensures parts { IfOk result (λ made. IfSome made (λ f.
-        AreLightParts heavy light.now from (spans_of f.parts.items) f.overs.items to)) }
+        AreLightParts heavy light.now from (spans_of f.parts.items) (overs_of f.parts.items) to)) }
 {
     let mut parts = Vec::new(alloc);
-    let mut overs = Vec::new(alloc);
     let mut rest = light;
     let mut start = from;
     while start < to {
@@ -138,18 +137,12 @@ pub(crate) fn over_spans(
         if least_begin(own, end) < start || greatest_end(own, start) > end {
             return Ok(None);
         }
-        let mut made = light_parts(alloc, own, start, end, max_part_len)?;
-        let mut over_all = Vec::from_elem(alloc, over, made.len())?;
-        parts.append(&mut made)?;
-        overs.append(&mut over_all)?;
+        let tables = light_tables(alloc, own, start, end, max_part_len)?;
+        share_under(&mut parts, tables.as_slice(), over)?;
         rest = later;
         start = end;
     }
-    Ok(Some(FaceParts {
-        parts,
-        overs,
-        heavy,
-    }))
+    Ok(Some(FaceParts { parts, heavy }))
 }
 
 // Whether the cell of a pair has a number below this one.
@@ -169,9 +162,9 @@ fn count_below(held: &[FlatHeld], number: u64) -> usize
     held.partition_point(|h| is_below(h.pair(), number))
 }
 
-// The parts of light pairs over the leaves from one number up to another, of at most `max_part_len` pairs each, if they can be cut. O(n) for n
+// The tables of light pairs over the leaves from one number up to another, of at most `max_part_len` pairs each, if they can be cut. O(n) for n
 // pairs. `OutOfMemory` if a growth is refused.
-fn light_parts(
+fn light_tables(
     alloc: Global,
     held: &[FlatHeld],
     from: u64,
@@ -181,8 +174,8 @@ fn light_parts(
     requires rises { IsCollection held.now }
     requires within_limit { length held.now ≤ 1000000 }
     requires span { IsInSpan held.now from to }
-    ensures neighbours { IfOk result (λ parts. AreNeighbours from (spans_of parts.items) to) }
-    ensures pairs { IfOk result (λ parts. held_in (spans_of parts.items) ≡ held.now) }
+    ensures neighbours { IfOk result (λ tables. AreNeighbours from (tables_of tables.items) to) }
+    ensures pairs { IfOk result (λ tables. held_in (tables_of tables.items) ≡ held.now) }
 {
     let lists = HeldParts::new_in_parts_of(alloc, Vec::from_slice(alloc, held)?, max_part_len)?;
     parts_over(alloc, lists.parts(), from, to)

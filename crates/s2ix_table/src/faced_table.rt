@@ -13,7 +13,7 @@ ghost use Rattle.s2ix_table_walk.specs.Shown.{AreBorders};
 ghost use Rattle.s2ix_table_walk.specs.Table.{range_at, IsFound, IsRangeTable, leaf_end};
 ghost use Rattle.s2ix_table.specs.Blocks.{AreBlocks};
 ghost use Rattle.s2ix_table.specs.Faces.{changed_count, held_on, changed_on, faces, faces_of, has_entry_on};
-ghost use Rattle.s2ix_table.specs.FaceSpans.{BeginFaces, parts_of_face, spans_of, starts_of, table_of, AreOnFace, of_face};
+ghost use Rattle.s2ix_table.specs.FaceSpans.{BeginFaces, overs_of, parts_of_face, spans_of, starts_of, table_of, AreOnFace, of_face};
 ghost use Rattle.s2ix_table.specs.Joined.{held_in, joined_ranges, AreNeighbours};
 ghost use Rattle.s2ix_table.specs.Layered.{AreLayered, IsLayout, covered, heavy_in, IsFaceLayered, IsFaceWith, chunks_on};
 ghost use Rattle.s2ix_table.specs.Layers.{together};
@@ -25,31 +25,30 @@ ghost use Rattle.s2ix_table.specs.Reading.{two_searches};
 ghost use Rattle.s2ix_table.specs.Whole.{AreJoined};
 ghost use Rattle.s2ix_bag_lists.specs.Faces.{all_of};
 
+use crate::all_faces::{AllFaces, read_all_faces};
 use crate::bag_reader::BagReader;
 use crate::blocks::{Blocks, room_for};
 use crate::changes::only_face;
-use crate::counting::{Layout, begins_of, uncounted};
 use crate::entries_on::entries_on;
 use crate::face_after::Face;
 use crate::heavy_pairs::{HeavyPairs, all_are_chunks, set_face};
-use crate::new_parts::{AllFaces, NewFace, NewParts, put_between};
+use crate::layout::{Layout, uncounted};
+use crate::new_parts::{NewFace, put_between};
 use crate::offset::{Offset, offset_by};
 use crate::pair_reader::PairReader;
+use crate::part::{Part, begins_of};
 use crate::part_place::{FaceHeavyPlace, FacedPlace, PartPlace};
 use crate::read_faces::read_changed_lists;
 use crate::shares_chains::SharesChains;
 use crate::starts::first_parts;
-use crate::tables::{read_all_faces, share};
 use s2id_core::{CellId, FACES, LEAF_END, OutOfMemory};
 use s2ix_bag_changes::{Bag, Change};
 use s2ix_bag_lists::HeldParts;
 use s2ix_bag_pairs::Held;
-use s2ix_table_heavy::HeavyPlace;
 use s2ix_table_queries::{BATCH, LeafContents, LeafHint, RangeTable, Stretch};
 use s2ix_table_spans::SpanTable;
 use s2ix_table_walk::{LeafWindow, RangeRow, Window};
 use std::alloc::Global;
-use std::sync::Arc;
 
 /// A range table in parts. Each part is a table with shared chains over some leaves of one face, and the pairs of heavy cells lie in chunks
 /// over the parts. A table that [`FacedTable::rebuilt`] makes of this one shares its parts. Ranges that meet where two parts do are one if
@@ -59,7 +58,7 @@ use std::sync::Arc;
 #[derive(Debug, Drop)]
 pub struct FacedTable {
     // neighbours, from the first leaf of face 0 to the last of face 5; each face begins a part
-    pub(crate) parts: Vec<Arc<SpanTable>>,
+    pub(crate) parts: Vec<Part>,
     // for each part the place among all of its first range, and the leaf number at which that range begins
     pub(crate) offsets: Vec<Offset>,
     // the leaf number at which each part's span begins
@@ -72,11 +71,9 @@ pub struct FacedTable {
     count: usize,
     // the heavy pairs of each face
     pub(crate) heavy: [HeavyPairs; FACES],
-    // for each part the place that leads to the heavy pairs over it
-    overs: Vec<Option<HeavyPlace>>,
     ghost joined: { AreJoined (spans_of parts.items) (heavy_in heavy) starts.items offsets.items faces count } by { joined-prop (spans_of parts.items) (heavy_in heavy) starts.items offsets.items faces count },
     ghost blocked: { AreBlocks starts.items blocks },
-    ghost layered: { AreLayered heavy (spans_of parts.items) overs.items } by { layered-prop heavy (spans_of parts.items) overs.items },
+    ghost layered: { AreLayered heavy (spans_of parts.items) (overs_of parts.items) } by { layered-prop heavy (spans_of parts.items) (overs_of parts.items) },
     ghost rises: { IsCollection (together (held_in (spans_of parts.items)) (heavy_in heavy)) } by { IsCollection-prop 0 (together (held_in (spans_of parts.items)) (heavy_in heavy)) },
     ghost table: { IsRangeTable (together (held_in (spans_of parts.items)) (heavy_in heavy)) (joined_ranges (covered (heavy_in heavy) (spans_of parts.items))) },
     ghost bordered: { AreBorders (joined_ranges (covered (heavy_in heavy) (spans_of parts.items))) (places_of offsets.items) },
@@ -105,7 +102,7 @@ impl RangeTable for FacedTable {
     fn build(alloc: Global, bag: &Bag) -> Result<Self, OutOfMemory> {
         let mut reader = BagReader::new(bag);
         let all = read_all_faces(alloc, &mut reader)?;
-        FacedTable::together(alloc, all.parts, all.overs, all.heavy)
+        FacedTable::from_parts(alloc, all.parts, all.heavy)
     }
 
     #[inline]
@@ -307,7 +304,7 @@ impl FacedTable {
             Some(face) => self.change_face(alloc, face, lists, change),
             None => {
                 let all = self.faces_after(alloc, lists, change)?;
-                *self = FacedTable::together(alloc, all.parts, all.overs, all.heavy)?;
+                *self = FacedTable::from_parts(alloc, all.parts, all.heavy)?;
                 Ok(())
             }
         }
@@ -337,7 +334,7 @@ impl FacedTable {
         let new = self.face_after(alloc, face, lists, change)?;
         all_are_chunks(&self.heavy);
         let first = self.faces[usize::from(face)];
-        self.put(alloc, new.on(first))?;
+        self.put(alloc, new.shifted_by(first))?;
         Ok(())
     }
 
@@ -351,7 +348,7 @@ impl FacedTable {
         requires lists { lists.now ≡ map (changed_on change.now (changed (⟦<FacedTable as RangeTable>⟧.pairs self.now) change.now)) faces }
         requires rises { IsCollection (changed (⟦<FacedTable as RangeTable>⟧.pairs self.now) change.now) }
         requires within_limit { length (changed (⟦<FacedTable as RangeTable>⟧.pairs self.now) change.now) ≤ 1000000 }
-        ensures layout { IfOk result (λ all. IsLayout (spans_of all.parts.items) all.heavy all.overs.items) }
+        ensures layout { IfOk result (λ all. IsLayout (spans_of all.parts.items) all.heavy (overs_of all.parts.items)) }
         ensures faces { IfOk result (λ all. BeginFaces (spans_of all.parts.items)) }
         ensures pairs { IfOk result (λ all. together (held_in (spans_of all.parts.items)) (heavy_in all.heavy)
             ≡ changed (⟦<FacedTable as RangeTable>⟧.pairs self.now) change.now) }
@@ -360,7 +357,7 @@ impl FacedTable {
         for face in 0..6u8 {
             let new = self.face_after(alloc, face, lists, change)?;
             let before = self.face(face);
-            all.push(new, before.parts, before.overs)?;
+            all.push(new, before.parts)?;
         }
         Ok(all)
     }
@@ -378,10 +375,10 @@ impl FacedTable {
         requires within_limit { length (changed (⟦<FacedTable as RangeTable>⟧.pairs self.now) change.now) ≤ 1000000 }
         ensures face { IfOk result (λ new. new.face ≡ face) }
         ensures with { IfOk result (λ new. IsFaceWith face (held_on face (changed (⟦<FacedTable as RangeTable>⟧.pairs self.now) change.now))
-            (parts_of_face (spans_of self.now.parts.items) self.now.faces face) (of_face self.now.overs.items self.now.faces face)
-            new.parts.first new.parts.end (spans_of new.parts.parts.items) new.overs.items new.heavy) }
-        ensures before { IfOk result (λ new. 0 < new.parts.first → new.heavy ≡ chunks_on self.now.heavy face) }
-        ensures behind { IfOk result (λ new. new.parts.end < length (parts_of_face (spans_of self.now.parts.items) self.now.faces face)
+            (parts_of_face (spans_of self.now.parts.items) self.now.faces face) (of_face (overs_of self.now.parts.items) self.now.faces face)
+            new.first new.end (spans_of new.parts.items) (overs_of new.parts.items) new.heavy) }
+        ensures before { IfOk result (λ new. 0 < new.first → new.heavy ≡ chunks_on self.now.heavy face) }
+        ensures behind { IfOk result (λ new. new.end < length (parts_of_face (spans_of self.now.parts.items) self.now.faces face)
             → new.heavy ≡ chunks_on self.now.heavy face) }
     {
         let before = self.face(face);
@@ -396,9 +393,9 @@ impl FacedTable {
         requires { face < 6 }
         ensures face { result.face ≡ face }
         ensures parts { spans_of result.parts.now ≡ parts_of_face (spans_of self.now.parts.items) self.now.faces face }
-        ensures overs { result.overs.now ≡ of_face self.now.overs.items self.now.faces face }
+        ensures overs { overs_of result.parts.now ≡ of_face (overs_of self.now.parts.items) self.now.faces face }
         ensures heavy { result.heavy.now ≡ chunks_on self.now.heavy face }
-        ensures layered { IsFaceLayered face result.heavy.now (spans_of result.parts.now) result.overs.now }
+        ensures layered { IsFaceLayered face result.heavy.now (spans_of result.parts.now) (overs_of result.parts.now) }
         ensures pairs { together (held_in (spans_of result.parts.now)) (all_of result.heavy.now)
             ≡ held_on face (⟦<FacedTable as RangeTable>⟧.pairs self.now) }
     {
@@ -407,7 +404,6 @@ impl FacedTable {
         Face {
             face,
             parts: self.parts_on(at),
-            overs: self.overs_on(at),
             heavy: &self.heavy[at],
         }
     }
@@ -415,30 +411,30 @@ impl FacedTable {
     // Puts what a change makes of a face into its place. O(p) for p parts. `OutOfMemory` if a growth is refused.
     fn put(&mut self, alloc: Global, new: NewFace) -> Result<(), OutOfMemory>
         requires face { new.face < 6 }
-        requires order { new.parts.first ≤ new.parts.end }
-        requires within { new.parts.end ≤ length self.old.parts.items }
-        requires overs { length new.overs.items ≡ length new.parts.parts.items }
+        requires order { new.first ≤ new.end }
+        requires within { new.end ≤ length self.old.parts.items }
         requires layout { IsLayout
-            (with_parts (spans_of self.old.parts.items) new.parts.first new.parts.end (spans_of new.parts.parts.items))
+            (with_parts (spans_of self.old.parts.items) new.first new.end (spans_of new.parts.items))
             (set self.old.heavy new.face new.heavy)
-            (take new.parts.first self.old.overs.items ++ (new.overs.items ++ drop new.parts.end self.old.overs.items)) }
-        requires faces { BeginFaces (with_parts (spans_of self.old.parts.items) new.parts.first new.parts.end (spans_of new.parts.parts.items)) }
-        requires front { covered (heavy_in (set self.old.heavy new.face new.heavy)) (take new.parts.first (spans_of self.old.parts.items))
-            ≡ covered (heavy_in self.old.heavy) (take new.parts.first (spans_of self.old.parts.items)) }
-        requires back { covered (heavy_in (set self.old.heavy new.face new.heavy)) (drop new.parts.end (spans_of self.old.parts.items))
-            ≡ covered (heavy_in self.old.heavy) (drop new.parts.end (spans_of self.old.parts.items)) }
+            (take new.first (overs_of self.old.parts.items) ++ (overs_of new.parts.items ++ drop new.end (overs_of self.old.parts.items))) }
+        requires faces { BeginFaces (with_parts (spans_of self.old.parts.items) new.first new.end (spans_of new.parts.items)) }
+        requires front { covered (heavy_in (set self.old.heavy new.face new.heavy)) (take new.first (spans_of self.old.parts.items))
+            ≡ covered (heavy_in self.old.heavy) (take new.first (spans_of self.old.parts.items)) }
+        requires back { covered (heavy_in (set self.old.heavy new.face new.heavy)) (drop new.end (spans_of self.old.parts.items))
+            ≡ covered (heavy_in self.old.heavy) (drop new.end (spans_of self.old.parts.items)) }
         ensures put { OnOk result (spans_of self.new.parts.items
-            ≡ with_parts (spans_of self.old.parts.items) new.parts.first new.parts.end (spans_of new.parts.parts.items)) }
+            ≡ with_parts (spans_of self.old.parts.items) new.first new.end (spans_of new.parts.items)) }
         ensures heavy { OnOk result (self.new.heavy ≡ set self.old.heavy new.face new.heavy) }
         ensures stay { OnErr result (spans_of self.new.parts.items ≡ spans_of self.old.parts.items) }
         ensures heavy_stay { OnErr result (self.new.heavy ≡ self.old.heavy) }
         ensures offsets_stay { OnErr result (self.new.offsets.items ≡ self.old.offsets.items) }
     {
-        let blocks = self.blocks_after(alloc, &new.parts)?;
+        let blocks = self.blocks_after(alloc, &new)?;
         let NewFace {
             face,
-            parts: NewParts { first, end, parts },
-            overs,
+            first,
+            end,
+            parts,
             heavy,
         } = new;
         let count = parts.len();
@@ -446,36 +442,31 @@ impl FacedTable {
         let offsets = uncounted(alloc, count)?;
         self.make_room(count)?;
         put_between(&mut self.parts, first, end, parts);
-        put_between(&mut self.overs, first, end, overs);
         put_between(&mut self.starts, first, end, starts);
         put_between(&mut self.offsets, first, end, offsets);
         set_face(&mut self.heavy, face, heavy);
         let layout = Layout {
             parts: &self.parts,
-            overs: &self.overs,
             heavy: &self.heavy,
         };
         self.count = layout.count_from(first, first + count, &mut self.offsets);
         self.faces = first_parts(&self.starts);
-        self.blocks.give_way(blocks, &self.starts);
+        self.blocks.replace(blocks, &self.starts);
         Ok(())
     }
 
     // Room for so many parts more in each list. `OutOfMemory` if a growth is refused.
     fn make_room(&mut self, count: usize) -> Result<(), OutOfMemory>
         ensures parts { self.new.parts.items ≡ self.old.parts.items }
-        ensures overs { self.new.overs.items ≡ self.old.overs.items }
         ensures starts { self.new.starts.items ≡ self.old.starts.items }
         ensures offsets { self.new.offsets.items ≡ self.old.offsets.items }
         ensures heavy { self.new.heavy ≡ self.old.heavy }
         ensures stay { self.new.blocks ≡ self.old.blocks }
         ensures room { OnOk result (length self.new.parts.items + count ≤ vec_capacity self.new.parts) }
-        ensures overs_room { OnOk result (length self.new.overs.items + count ≤ vec_capacity self.new.overs) }
         ensures starts_room { OnOk result (length self.new.starts.items + count ≤ vec_capacity self.new.starts) }
         ensures offsets_room { OnOk result (length self.new.offsets.items + count ≤ vec_capacity self.new.offsets) }
     {
         self.parts.reserve(count)?;
-        self.overs.reserve(count)?;
         self.starts.reserve(count)?;
         self.offsets.reserve(count)?;
         Ok(())
@@ -483,7 +474,7 @@ impl FacedTable {
 
     // Blocks for the parts that there are then, if new parts do not begin where those did that give way. O(p). `OutOfMemory` if a growth is
     // refused.
-    fn blocks_after(&self, alloc: Global, new: &NewParts) -> Result<Option<Blocks>, OutOfMemory>
+    fn blocks_after(&self, alloc: Global, new: &NewFace) -> Result<Option<Blocks>, OutOfMemory>
         requires order { new.now.first ≤ new.now.end }
         requires within { new.now.end ≤ length self.now.parts.items }
         ensures { IfOk result (λ blocks. blocks ≡ None
@@ -498,12 +489,10 @@ impl FacedTable {
     pub fn copied(&self, alloc: Global) -> Result<FacedTable, OutOfMemory>
         ensures { IfOk result (λ table. ⟦<FacedTable as RangeTable>⟧.pairs table ≡ ⟦<FacedTable as RangeTable>⟧.pairs self.now) }
     {
-        let mut parts = Vec::with_capacity(alloc, self.parts.len())?;
-        share(&mut parts, &self.parts)?;
+        let parts = self.parts.to_vec(alloc)?;
         let starts = Vec::from_slice(alloc, &self.starts)?;
         let offsets = Vec::from_slice(alloc, &self.offsets)?;
         let blocks = self.blocks.copied(alloc)?;
-        let overs = Vec::from_slice(alloc, &self.overs)?;
         let heavy = self.heavy.clone()?;
         Ok(FacedTable {
             parts,
@@ -513,18 +502,16 @@ impl FacedTable {
             faces: self.faces,
             count: self.count,
             heavy,
-            overs,
         })
     }
 
     // The table of these parts and heavy pairs. O(p) for p parts. `OutOfMemory` if a growth is refused.
-    fn together(
+    fn from_parts(
         alloc: Global,
-        parts: Vec<Arc<SpanTable>>,
-        overs: Vec<Option<HeavyPlace>>,
+        parts: Vec<Part>,
         heavy: [HeavyPairs; FACES],
     ) -> Result<FacedTable, OutOfMemory>
-        requires layout { IsLayout (spans_of parts.items) heavy overs.items }
+        requires layout { IsLayout (spans_of parts.items) heavy (overs_of parts.items) }
         requires faces { BeginFaces (spans_of parts.items) }
         ensures parts { IfOk result (λ table. spans_of table.parts.items ≡ spans_of parts.items) }
         ensures heavy { IfOk result (λ table. table.heavy ≡ heavy) }
@@ -534,7 +521,6 @@ impl FacedTable {
         let mut blocks = Blocks::room(alloc, parts.len())?;
         let layout = Layout {
             parts: &parts,
-            overs: &overs,
             heavy: &heavy,
         };
         let count = layout.count_from(0, parts.len(), &mut offsets);
@@ -548,38 +534,19 @@ impl FacedTable {
             faces,
             count,
             heavy,
-            overs,
         })
     }
 
     // The parts of a face.
-    pub(crate) fn parts_on(&self, face: usize) -> &[Arc<SpanTable>]
+    pub(crate) fn parts_on(&self, face: usize) -> &[Part]
         requires { face < 6 }
         ensures neighbours { AreNeighbours (face_begin face) (spans_of result.now) (face_begin (face + 1)) }
         ensures pairs { held_in (spans_of result.now) ≡ held_on face (held_in (spans_of self.now.parts.items)) }
         ensures slice { spans_of result.now ≡ parts_of_face (spans_of self.now.parts.items) self.now.faces face }
+        ensures overs { overs_of result.now ≡ of_face (overs_of self.now.parts.items) self.now.faces face }
     {
         &self.parts[self.faces[face]..self.faces[face + 1]]
     }
-
-    // For each part of a face the place that leads to the heavy pairs over it.
-    fn overs_on(&self, face: usize) -> &[Option<HeavyPlace>]
-        requires { face < 6 }
-        ensures { result.now ≡ of_face self.now.overs.items self.now.faces face }
-    {
-        self.places_are_listed(face);
-        let first = self.faces[face];
-        let (_, later) = self.overs.split_at(first);
-        let (own, _) = later.split_at(self.faces[face + 1] - first);
-        own
-    }
-
-    // The first part of a face isn't behind that of the next face, and there is an element of `overs` for each part before that.
-    fn places_are_listed(&self, face: usize)
-        requires { face < 6 }
-        ensures rise { slice_index_or self.now.faces face 0 ≤ slice_index_or self.now.faces (face + 1) 0 }
-        ensures within { slice_index_or self.now.faces (face + 1) 0 ≤ length self.now.overs.items }
-    {}
 
     // How many parts there are.
     pub(crate) fn part_count(&self) -> usize
@@ -607,7 +574,7 @@ impl FacedTable {
         requires { part < length (spans_of self.now.parts.items) }
         ensures { result.now ≡ table_of (spans_of self.now.parts.items) part }
     {
-        &self.parts[part]
+        self.parts[part].table()
     }
 
     // The part that has a leaf, and the place in that part's table of the range that has it. O(log n): a search among the parts of the
@@ -765,7 +732,7 @@ impl FacedTable {
             result
             (contents_at (table_of (spans_of self.now.parts.items) part).from (heavy_in self.now.heavy)) }
     {
-        match FaceHeavyPlace::there(self.overs[part], self.starts[part]) {
+        match FaceHeavyPlace::there(self.parts[part].over(), self.starts[part]) {
             Some(place) => Some(FacedPlace::Heavy(place)),
             None => None,
         }

@@ -4,7 +4,7 @@ ghost use Rattle.std.specs.Prelude.{◌≡◌, ◌<◌, ◌≤◌, ◌+◌, ◌+
 ghost use Rattle.s2id_core.specs.Span.{leaf_end};
 ghost use Rattle.s2ix_bag_lists.specs.Faces.{all_of};
 ghost use Rattle.s2ix_bag_pairs.specs.Change.{IsChangeList, changed};
-ghost use Rattle.s2ix_table.specs.FaceSpans.{AreOnFace, spans_of, table_of};
+ghost use Rattle.s2ix_table.specs.FaceSpans.{AreOnFace, overs_of, spans_of};
 ghost use Rattle.s2ix_table.specs.Joined.{AreNeighbours, held_in};
 ghost use Rattle.s2ix_table.specs.Layered.{AreLightParts, HaveOtherCells, IsFaceLayered, IsFaceWith, IsUnder};
 ghost use Rattle.s2ix_table.specs.Layers.{together};
@@ -13,14 +13,12 @@ use crate::chunks_after::chunks_after;
 use crate::face_after::Face;
 use crate::face_parts::{FaceParts, over_spans};
 use crate::heavy_pairs::HeavyPairs;
-use crate::new_parts::{NewFace, NewParts};
+use crate::new_parts::NewFace;
+use crate::part::{Part, end_of};
 use s2id_core::{FACE_NUMBERS, OutOfMemory};
-use s2ix_bag_lists::FlatHeld;
 use s2ix_bag_pairs::Entry;
 use s2ix_table_heavy::HeavyPlace;
-use s2ix_table_spans::SpanTable;
-use std::alloc::Global;
-use std::sync::Arc;
+use std::alloc::{AllocError, Global};
 
 impl Face<'_> {
     // What a change of heavy cells makes of the face: of cells that have heavy pairs, or no pairs yet. Its parts stay, shared, and it is
@@ -35,18 +33,18 @@ impl Face<'_> {
         max_part_len: usize,
     ) -> Result<Option<NewFace>, OutOfMemory>
         requires six { self.face < 6 }
-        requires layered { IsFaceLayered self.face self.heavy.now (spans_of self.parts.now) self.overs.now }
+        requires layered { IsFaceLayered self.face self.heavy.now (spans_of self.parts.now) (overs_of self.parts.now) }
         requires entries_rise { IsChangeList entries.now }
         requires apart { HaveOtherCells entries.now (held_in (spans_of self.parts.now)) }
         requires on_face { AreOnFace self.face (changed (all_of self.heavy.now) entries.now) }
         requires within_limit { length (changed (all_of self.heavy.now) entries.now) ≤ 1000000 }
         ensures face { IfOk result (λ made. IfSome made (λ new. new.face ≡ self.entry.face)) }
-        ensures first { IfOk result (λ made. IfSome made (λ new. new.parts.first ≡ 0)) }
-        ensures end { IfOk result (λ made. IfSome made (λ new. new.parts.end ≡ length (spans_of self.entry.parts.now))) }
+        ensures first { IfOk result (λ made. IfSome made (λ new. new.first ≡ 0)) }
+        ensures end { IfOk result (λ made. IfSome made (λ new. new.end ≡ length (spans_of self.entry.parts.now))) }
         ensures with { IfOk result (λ made. IfSome made (λ new. IsFaceWith self.entry.face
             (changed (together (held_in (spans_of self.entry.parts.now)) (all_of self.entry.heavy.now)) entries.now)
-            (spans_of self.entry.parts.now) self.entry.overs.now
-            new.parts.first new.parts.end (spans_of new.parts.parts.items) new.overs.items new.heavy)) }
+            (spans_of self.entry.parts.now) (overs_of self.entry.parts.now)
+            new.first new.end (spans_of new.parts.items) (overs_of new.parts.items) new.heavy)) }
     {
         let chunks = chunks_after(alloc, self.heavy.chunks(), entries, max_part_len)?;
         let heavy = HeavyPairs::over(alloc, chunks)?;
@@ -62,19 +60,12 @@ impl Face<'_> {
         else {
             return Ok(None);
         };
-        let FaceParts {
-            parts,
-            overs,
-            heavy,
-        } = under;
+        let FaceParts { parts, heavy } = under;
         Ok(Some(NewFace {
             face: usize::from(self.face),
-            parts: NewParts {
-                first: 0,
-                end: self.parts.len(),
-                parts,
-            },
-            overs,
+            first: 0,
+            end: self.parts.len(),
+            parts,
             heavy,
         }))
     }
@@ -86,7 +77,7 @@ impl Face<'_> {
 // a part is shared too often.
 fn parts_under(
     alloc: Global,
-    parts: &[Arc<SpanTable>],
+    parts: &[Part],
     heavy: HeavyPairs,
     from: u64,
     to: u64,
@@ -96,10 +87,9 @@ fn parts_under(
     requires leaves { to ≤ leaf_end }
     ensures heavy { IfOk result (λ made. IfSome made (λ f. f.heavy ≡ heavy)) }
     ensures parts { IfOk result (λ made. IfSome made (λ f.
-        AreLightParts heavy (held_in (spans_of parts.now)) from (spans_of f.parts.items) f.overs.items to)) }
+        AreLightParts heavy (held_in (spans_of parts.now)) from (spans_of f.parts.items) (overs_of f.parts.items) to)) }
 {
     let mut made = Vec::with_capacity(alloc, parts.len())?;
-    let mut overs = Vec::with_capacity(alloc, parts.len())?;
     let mut known = (None, from);
     let mut begin = from;
     for k in 0..parts.len() {
@@ -107,77 +97,28 @@ fn parts_under(
         known = over_from(&heavy, known, begin, end);
         if known.1 < end {
             let shared = heavy.clone()?;
-            let Some(laid) = over_spans(alloc, held_of(parts, k), shared, begin, end, max_part_len)?
-            else {
+            let held = parts[k].table().held();
+            let Some(laid) = over_spans(alloc, held, shared, begin, end, max_part_len)? else {
                 return Ok(None);
             };
-            put_laid(&mut made, &mut overs, laid)?;
+            put_laid(&mut made, laid)?;
         } else {
-            put_shared(&mut made, &mut overs, &parts[k], known.0)?;
+            made.push(parts[k].under(known.0)?)?;
         }
         begin = end;
     }
-    Ok(Some(FaceParts {
-        parts: made,
-        overs,
-        heavy,
-    }))
+    Ok(Some(FaceParts { parts: made, heavy }))
 }
 
-// The pairs of a part. O(1).
-fn held_of(parts: &[Arc<SpanTable>], part: usize) -> &[FlatHeld]
-    requires { part < length parts.now }
-    ensures { result.now ≡ (table_of (spans_of parts.now) part).held }
-{
-    parts[part].held()
-}
-
-// Appends parts, with what leads to the heavy pairs over each.
-fn put_laid(
-    parts: &mut Vec<Arc<SpanTable>>,
-    overs: &mut Vec<Option<HeavyPlace>>,
-    laid: FaceParts,
-) -> Result<(), OutOfMemory>
-    ensures parts { OnOk result (spans_of parts.new.items ≡ spans_of parts.old.items ++ spans_of laid.parts.items) }
-    ensures overs { OnOk result (overs.new.items ≡ overs.old.items ++ laid.overs.items) }
+// Puts the parts of what was laid behind others.
+fn put_laid(parts: &mut Vec<Part>, laid: FaceParts) -> Result<(), AllocError>
+    ensures { OnOk result (parts.new.items ≡ parts.old.items ++ laid.parts.items) }
 {
     let FaceParts {
         parts: mut more,
-        overs: mut more_overs,
         ..
     } = laid;
-    parts.append(&mut more)?;
-    overs.append(&mut more_overs)?;
-    Ok(())
-}
-
-// Appends a part, shared, with what leads to the heavy pairs over it.
-fn put_shared(
-    parts: &mut Vec<Arc<SpanTable>>,
-    overs: &mut Vec<Option<HeavyPlace>>,
-    part: &Arc<SpanTable>,
-    over: Option<HeavyPlace>,
-) -> Result<(), OutOfMemory>
-    ensures parts { OnOk result (spans_of parts.new.items ≡ spans_of parts.old.items ++ part.now.value ∷ []) }
-    ensures overs { OnOk result (overs.new.items ≡ overs.old.items ++ over ∷ []) }
-{
-    let shared = part.clone()?;
-    parts.push(shared)?;
-    overs.push(over)?;
-    Ok(())
-}
-
-// Where a part ends, of parts of which the last one ends at `to`.
-pub(crate) fn end_of(parts: &[Arc<SpanTable>], part: usize, to: u64) -> u64
-    requires { part < length parts.now }
-    ensures next { part + 1 < length (spans_of parts.now) → result ≡ (table_of (spans_of parts.now) (part + 1)).from }
-    ensures last { part + 1 ≡ length (spans_of parts.now) → result ≡ to }
-{
-    if part + 1 < parts.len() {
-        parts[part + 1].from()
-    } else {
-        to
-    }
+    parts.append(&mut more)
 }
 
 // The place that leads to the heavy pairs over a leaf, which is given by its number, and a number up to which they are the same: what is

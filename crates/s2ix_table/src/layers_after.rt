@@ -2,15 +2,14 @@
 ghost use Rattle.std.specs.Prelude.{◌≡◌, ◌<◌, ◌≤◌, ◌+◌, ◌++◌, IfOk, IfSome, drop, length, take};
 ghost use Rattle.s2ix_bag_lists.specs.Faces.{all_of};
 ghost use Rattle.s2ix_bag_pairs.specs.Change.{IsChangeList, changed};
-ghost use Rattle.s2ix_table.specs.FaceSpans.{AreOnFace, face_begin, spans_of};
+ghost use Rattle.s2ix_table.specs.FaceSpans.{AreOnFace, face_begin, overs_of, spans_of};
 ghost use Rattle.s2ix_table.specs.Joined.{AreNeighbours, held_in};
 ghost use Rattle.s2ix_table.specs.Layered.{IsFaceLayered, IsFaceWith, goes_over};
 ghost use Rattle.s2ix_table.specs.Layers.{entries_where, fails, together};
-ghost use Rattle.s2ix_table.specs.Parts.{with_parts};
 
 use crate::face_after::Face;
-use crate::heavy_after::end_of;
-use crate::new_parts::{NewFace, NewParts, put_between};
+use crate::new_parts::{NewFace, put_between};
+use crate::part::end_of;
 use crate::parts_changed::last_by;
 use s2id_core::{CellId, FACE_NUMBERS, OutOfMemory};
 use s2ix_bag_pairs::Entry;
@@ -35,17 +34,17 @@ impl Face<'_> {
         max_part_len: usize,
     ) -> Result<Option<NewFace>, OutOfMemory>
         requires six { self.face < 6 }
-        requires layered { IsFaceLayered self.face self.heavy.now (spans_of self.parts.now) self.overs.now }
+        requires layered { IsFaceLayered self.face self.heavy.now (spans_of self.parts.now) (overs_of self.parts.now) }
         requires entries_rise { IsChangeList entries.now }
         requires on_face { AreOnFace self.face (changed (together (held_in (spans_of self.parts.now)) (all_of self.heavy.now)) entries.now) }
         requires within_limit { length (changed (together (held_in (spans_of self.parts.now)) (all_of self.heavy.now)) entries.now) ≤ 1000000 }
         ensures face { IfOk result (λ made. IfSome made (λ new. new.face ≡ self.entry.face)) }
-        ensures first { IfOk result (λ made. IfSome made (λ new. new.parts.first ≡ 0)) }
-        ensures end { IfOk result (λ made. IfSome made (λ new. new.parts.end ≡ length (spans_of self.entry.parts.now))) }
+        ensures first { IfOk result (λ made. IfSome made (λ new. new.first ≡ 0)) }
+        ensures end { IfOk result (λ made. IfSome made (λ new. new.end ≡ length (spans_of self.entry.parts.now))) }
         ensures with { IfOk result (λ made. IfSome made (λ new. IsFaceWith self.entry.face
             (changed (together (held_in (spans_of self.entry.parts.now)) (all_of self.entry.heavy.now)) entries.now)
-            (spans_of self.entry.parts.now) self.entry.overs.now
-            new.parts.first new.parts.end (spans_of new.parts.parts.items) new.overs.items new.heavy)) }
+            (spans_of self.entry.parts.now) (overs_of self.entry.parts.now)
+            new.first new.end (spans_of new.parts.items) (overs_of new.parts.items) new.heavy)) }
     {
         let Some(own) = self.entries_by_layer(alloc, entries)? else {
             return Ok(None);
@@ -115,7 +114,7 @@ impl Face<'_> {
         if part + 1 < self.parts.len() && begin < next && next < end {
             return Some(true);
         }
-        if self.parts[part].from() <= begin && end <= next {
+        if self.parts[part].table().from() <= begin && end <= next {
             Some(false)
         } else {
             None
@@ -133,21 +132,20 @@ impl NewFace {
         max_part_len: usize,
     ) -> Result<Option<NewFace>, OutOfMemory>
         requires six { face < 6 }
-        requires layered { IsFaceLayered face self.heavy (spans_of self.parts.parts.items) self.overs.items }
+        requires layered { IsFaceLayered face self.heavy (spans_of self.parts.items) (overs_of self.parts.items) }
         requires entries_rise { IsChangeList entries.now }
-        requires within_limit { length (changed (together (held_in (spans_of self.parts.parts.items)) (all_of self.heavy)) entries.now) ≤ 1000000 }
+        requires within_limit { length (changed (together (held_in (spans_of self.parts.items)) (all_of self.heavy)) entries.now) ≤ 1000000 }
         ensures face { IfOk result (λ made. IfSome made (λ new. new.face ≡ self.face)) }
-        ensures first { IfOk result (λ made. IfSome made (λ new. new.parts.first ≡ self.parts.first)) }
-        ensures end { IfOk result (λ made. IfSome made (λ new. new.parts.end ≡ self.parts.end)) }
+        ensures first { IfOk result (λ made. IfSome made (λ new. new.first ≡ self.first)) }
+        ensures end { IfOk result (λ made. IfSome made (λ new. new.end ≡ self.end)) }
         ensures layered { IfOk result (λ made. IfSome made (λ new.
-            IsFaceLayered face new.heavy (spans_of new.parts.parts.items) new.overs.items)) }
-        ensures pairs { IfOk result (λ made. IfSome made (λ new. together (held_in (spans_of new.parts.parts.items)) (all_of new.heavy)
-            ≡ changed (together (held_in (spans_of self.parts.parts.items)) (all_of self.heavy)) entries.now)) }
+            IsFaceLayered face new.heavy (spans_of new.parts.items) (overs_of new.parts.items))) }
+        ensures pairs { IfOk result (λ made. IfSome made (λ new. together (held_in (spans_of new.parts.items)) (all_of new.heavy)
+            ≡ changed (together (held_in (spans_of self.parts.items)) (all_of self.heavy)) entries.now)) }
     {
         let old = Face {
             face,
-            parts: self.parts.parts.as_slice(),
-            overs: self.overs.as_slice(),
+            parts: self.parts.as_slice(),
             heavy: &self.heavy,
         };
         let Some(light) = old.light_after(alloc, entries, max_part_len)? else {
@@ -157,43 +155,31 @@ impl NewFace {
         Ok(Some(new))
     }
 
-    // The face with other parts in the place of some of its own, and what leads to the heavy pairs over them.
+    // The face with other parts in the place of some of its own.
     fn with_parts(self, light: NewFace) -> Result<NewFace, OutOfMemory>
-        requires order { light.parts.first ≤ light.parts.end }
-        requires within { light.parts.end ≤ length (spans_of self.parts.parts.items) }
-        requires overs_within { light.parts.end ≤ length self.overs.items }
+        requires order { light.first ≤ light.end }
+        requires within { light.end ≤ length self.parts.items }
         ensures face { IfOk result (λ new. new.face ≡ self.face) }
-        ensures first { IfOk result (λ new. new.parts.first ≡ self.parts.first) }
-        ensures end { IfOk result (λ new. new.parts.end ≡ self.parts.end) }
+        ensures first { IfOk result (λ new. new.first ≡ self.first) }
+        ensures end { IfOk result (λ new. new.end ≡ self.end) }
         ensures heavy { IfOk result (λ new. new.heavy ≡ self.heavy) }
-        ensures parts { IfOk result (λ new. spans_of new.parts.parts.items
-            ≡ with_parts (spans_of self.parts.parts.items) light.parts.first light.parts.end (spans_of light.parts.parts.items)) }
-        ensures overs { IfOk result (λ new. new.overs.items
-            ≡ take light.parts.first self.overs.items ++ (light.overs.items ++ drop light.parts.end self.overs.items)) }
+        ensures parts { IfOk result (λ new. new.parts.items
+            ≡ take light.first self.parts.items ++ (light.parts.items ++ drop light.end self.parts.items)) }
     {
         let NewFace {
             face,
-            parts: NewParts {
-                first,
-                end,
-                mut parts,
-            },
-            mut overs,
+            first,
+            end,
+            mut parts,
             heavy,
         } = self;
-        let NewFace {
-            parts: between,
-            overs: between_overs,
-            ..
-        } = light;
-        parts.reserve(between.parts.len())?;
-        overs.reserve(between_overs.len())?;
-        put_between(&mut parts, between.first, between.end, between.parts);
-        put_between(&mut overs, between.first, between.end, between_overs);
+        parts.reserve(light.parts.len())?;
+        put_between(&mut parts, light.first, light.end, light.parts);
         Ok(NewFace {
             face,
-            parts: NewParts { first, end, parts },
-            overs,
+            first,
+            end,
+            parts,
             heavy,
         })
     }

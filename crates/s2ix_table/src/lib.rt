@@ -37,12 +37,12 @@
 //! leaves; `s2ix_table_heavy` keeps the pairs of heavy cells. Here are the readers of a bag, and the tables that share chains.
 #![tactic(auto)]
 
+mod all_faces;
 mod bag_reader;
 mod blocks;
 mod chain_table;
 mod changes;
 mod chunks_after;
-mod counting;
 mod entries_on;
 mod face_after;
 mod face_parts;
@@ -51,11 +51,13 @@ mod heavy_after;
 mod heavy_pairs;
 pub mod laws;
 mod layers_after;
+mod layout;
 mod light_after;
 mod looking;
 mod new_parts;
 mod offset;
 mod pair_reader;
+mod part;
 mod part_place;
 mod parts;
 mod parts_changed;
@@ -63,7 +65,6 @@ mod read_faces;
 mod shares_chains;
 mod split;
 mod starts;
-mod tables;
 
 pub use bag_reader::BagReader;
 pub use chain_table::ChainTable;

@@ -2,23 +2,22 @@
 ghost use Rattle.std.specs.Prelude.{◌≡◌, ◌↔◌, ◌<◌, ◌≤◌, ◌+◌, IfOk, IfSome, IsTrue, length};
 ghost use Rattle.s2ix_bag_lists.specs.Faces.{all_of};
 ghost use Rattle.s2ix_bag_pairs.specs.Change.{IsChangeList, changed};
-ghost use Rattle.s2ix_table.specs.FaceSpans.{face_begin, spans_of};
+ghost use Rattle.s2ix_table.specs.FaceSpans.{face_begin, overs_of, spans_of};
 ghost use Rattle.s2ix_table.specs.Joined.{held_in};
 ghost use Rattle.s2ix_table.specs.Layered.{HaveLightCells, IsFaceLayered, IsFaceWith};
 ghost use Rattle.s2ix_table.specs.Layers.{together};
 ghost use Rattle.s2ix_table.specs.Parts.{EntriesBeginFrom, EntriesEndBy, AreTouched};
 
 use crate::face_after::Face;
-use crate::face_parts::{FaceParts, has_large, over_spans};
+use crate::face_parts::{FaceParts, is_large, over_spans};
 use crate::heavy_pairs::HeavyPairs;
-use crate::new_parts::{NewFace, NewParts};
+use crate::new_parts::NewFace;
+use crate::part::Part;
 use crate::parts_changed::last_by;
 use s2id_core::{FACE_NUMBERS, OutOfMemory};
 use s2ix_bag_lists::{FlatHeld, merge};
 use s2ix_bag_pairs::Entry;
-use s2ix_table_spans::SpanTable;
 use std::alloc::Global;
-use std::sync::Arc;
 
 // Neighbouring parts of a face, those with numbers from `first` on and before `end`, and the leaves that they go over: from the number
 // `from` up to `to`.
@@ -43,15 +42,15 @@ impl Face<'_> {
         max_part_len: usize,
     ) -> Result<Option<NewFace>, OutOfMemory>
         requires six { self.face < 6 }
-        requires layered { IsFaceLayered self.face self.heavy.now (spans_of self.parts.now) self.overs.now }
+        requires layered { IsFaceLayered self.face self.heavy.now (spans_of self.parts.now) (overs_of self.parts.now) }
         requires entries_rise { IsChangeList entries.now }
         requires within_limit { length (changed (together (held_in (spans_of self.parts.now)) (all_of self.heavy.now)) entries.now) ≤ 1000000 }
         ensures face { IfOk result (λ made. IfSome made (λ new. new.face ≡ self.entry.face)) }
         ensures heavy { IfOk result (λ made. IfSome made (λ new. new.heavy ≡ self.entry.heavy.now)) }
         ensures with { IfOk result (λ made. IfSome made (λ new. IsFaceWith self.entry.face
             (changed (together (held_in (spans_of self.entry.parts.now)) (all_of self.entry.heavy.now)) entries.now)
-            (spans_of self.entry.parts.now) self.entry.overs.now
-            new.parts.first new.parts.end (spans_of new.parts.parts.items) new.overs.items new.heavy)) }
+            (spans_of self.entry.parts.now) (overs_of self.entry.parts.now)
+            new.first new.end (spans_of new.parts.items) (overs_of new.parts.items) new.heavy)) }
     {
         if entries.is_empty() {
             let same = self.unchanged(alloc)?;
@@ -76,7 +75,7 @@ impl Face<'_> {
         max_part_len: usize,
     ) -> Result<Option<NewFace>, OutOfMemory>
         requires six { self.face < 6 }
-        requires layered { IsFaceLayered self.face self.heavy.now (spans_of self.parts.now) self.overs.now }
+        requires layered { IsFaceLayered self.face self.heavy.now (spans_of self.parts.now) (overs_of self.parts.now) }
         requires entries_rise { IsChangeList entries.now }
         requires within_limit { length (changed (together (held_in (spans_of self.parts.now)) (all_of self.heavy.now)) entries.now) ≤ 1000000 }
         requires light { HaveLightCells entries.now (all_of self.heavy.now) }
@@ -86,8 +85,8 @@ impl Face<'_> {
         ensures heavy { IfOk result (λ made. IfSome made (λ new. new.heavy ≡ self.entry.heavy.now)) }
         ensures with { IfOk result (λ made. IfSome made (λ new. IsFaceWith self.entry.face
             (changed (together (held_in (spans_of self.entry.parts.now)) (all_of self.entry.heavy.now)) entries.now)
-            (spans_of self.entry.parts.now) self.entry.overs.now
-            new.parts.first new.parts.end (spans_of new.parts.parts.items) new.overs.items new.heavy)) }
+            (spans_of self.entry.parts.now) (overs_of self.entry.parts.now)
+            new.first new.end (spans_of new.parts.items) (overs_of new.parts.items) new.heavy)) }
     {
         let (_, later) = self.parts.split_at(touched.first);
         let (own, _) = later.split_at(touched.end - touched.first);
@@ -105,25 +104,25 @@ impl Face<'_> {
         else {
             return Ok(None);
         };
-        if has_large(made.parts.as_slice(), max_part_len) {
+        if has_large_part(made.parts.as_slice(), max_part_len) {
             return Ok(None);
         }
-        let FaceParts {
-            parts,
-            overs,
-            heavy,
-        } = made;
+        let FaceParts { parts, heavy } = made;
         Ok(Some(NewFace {
             face: usize::from(self.face),
-            parts: NewParts {
-                first: touched.first,
-                end: touched.end,
-                parts,
-            },
-            overs,
+            first: touched.first,
+            end: touched.end,
+            parts,
             heavy,
         }))
     }
+}
+
+// Whether a part is large. No clause says so: it only saves work. O(p) for p parts.
+fn has_large_part(parts: &[Part], max_part_len: usize) -> bool {
+    parts
+        .iter()
+        .any(|part| is_large(part.table(), max_part_len))
 }
 
 // Whether no entry's cell has heavy pairs. O(m log c) for m entries and c chunks.
@@ -140,12 +139,7 @@ fn are_light(heavy: &HeavyPairs, entries: &[Entry]) -> bool
 
 // Of parts that end by the leaf number `last`: those from the first one that an entry's cell touches to the last one, and the next one too
 // if one of these two is small. `None` if there is no entry, or a cell lies beside all parts. O(log p + m) for p parts and m entries.
-fn touched_by(
-    parts: &[Arc<SpanTable>],
-    entries: &[Entry],
-    last: u64,
-    max_part_len: usize,
-) -> Option<Touched>
+fn touched_by(parts: &[Part], entries: &[Entry], last: u64, max_part_len: usize) -> Option<Touched>
     ensures { IfSome result (λ r. AreTouched (spans_of parts.now) entries.now last r.first r.end r.from r.to) }
 {
     let (begin, reach) = span_of(entries);
@@ -155,9 +149,9 @@ fn touched_by(
         return None;
     }
     let end = with_small(parts, reached, max_part_len);
-    let from = parts[first].from();
+    let from = parts[first].table().from();
     let to = if end < parts.len() {
-        parts[end].from()
+        parts[end].table().from()
     } else {
         last
     };
@@ -173,18 +167,25 @@ fn touched_by(
 }
 
 // The place after a part, or after the next one too if one of these two is small: it has less than a quarter of `max_part_len` pairs.
-fn with_small(parts: &[Arc<SpanTable>], end: usize, max_part_len: usize) -> usize
+fn with_small(parts: &[Part], end: usize, max_part_len: usize) -> usize
     requires some { 0 < end }
     requires within { end ≤ length parts.now }
     ensures from { end ≤ result }
     ensures within { result ≤ length parts.now }
 {
     let small = max_part_len / 4;
-    if end < parts.len() && parts[end - 1].pair_count().min(parts[end].pair_count()) < small {
+    if end < parts.len() && pair_count(parts, end - 1).min(pair_count(parts, end)) < small {
         end + 1
     } else {
         end
     }
+}
+
+// How many pairs a part has. O(1).
+fn pair_count(parts: &[Part], part: usize) -> usize
+    requires { part < length parts.now }
+{
+    parts[part].table().pair_count()
 }
 
 // The least leaf number at which an entry's cell begins, and the greatest at which one ends. O(m) for m entries.
@@ -202,12 +203,12 @@ fn span_of(entries: &[Entry]) -> (u64, u64)
 }
 
 // The pairs of some parts, one part after the other. O(n) for n pairs. `OutOfMemory` if a growth is refused.
-fn pairs_of(alloc: Global, parts: &[Arc<SpanTable>]) -> Result<Vec<FlatHeld>, OutOfMemory>
+fn pairs_of(alloc: Global, parts: &[Part]) -> Result<Vec<FlatHeld>, OutOfMemory>
     ensures { IfOk result (λ all. all.items ≡ held_in (spans_of parts.now)) }
 {
     let mut all = Vec::new(alloc);
     for part in parts {
-        all.extend_from_slice(part.held())?;
+        all.extend_from_slice(part.table().held())?;
     }
     Ok(all)
 }

@@ -1,14 +1,9 @@
 //! What a change makes of the parts of a table.
-ghost use Rattle.std.specs.Prelude.{◌≡◌, ◌≤◌, ◌<◌, ◌+◌, ◌^◌, ◌++◌, [], IfOk, OnOk, drop, length, set, take, vec_capacity};
-ghost use Rattle.s2ix_table.specs.FaceSpans.{spans_of};
-ghost use Rattle.s2ix_table.specs.Parts.{with_parts};
+ghost use Rattle.std.specs.Prelude.{◌≡◌, ◌≤◌, ◌<◌, ◌+◌, ◌^◌, ◌++◌, drop, length, take, vec_capacity};
 
 use crate::heavy_pairs::HeavyPairs;
-use crate::tables::share;
-use s2id_core::{FACES, OutOfMemory};
-use s2ix_table_heavy::HeavyPlace;
+use crate::part::Part;
 use s2ix_table_spans::SpanTable;
-use std::alloc::{AllocError, Global};
 use std::sync::Arc;
 
 /// Parts that take the place of others: those with numbers from `first` on and before `end` give way to `parts`, and the others stay.
@@ -22,148 +17,41 @@ pub struct NewParts {
     pub parts: Vec<Arc<SpanTable>>,
 }
 
-// What a change makes of a face: its parts, for each new one the place that leads to the heavy pairs over it, and the heavy pairs.
+// What a change makes of a face: its parts with numbers from `first` on and before `end` give way to `parts`, and these are its heavy pairs.
 #[derive(Debug, Drop)]
 pub(crate) struct NewFace {
     pub(crate) face: usize,
-    pub(crate) parts: NewParts,
-    pub(crate) overs: Vec<Option<HeavyPlace>>,
+    pub(crate) first: usize,
+    pub(crate) end: usize,
+    pub(crate) parts: Vec<Part>,
     pub(crate) heavy: HeavyPairs,
-}
-
-// The six faces of a table: their parts, for each the place that leads to the heavy pairs over it, and the heavy pairs of each face.
-#[derive(Debug, Drop)]
-pub(crate) struct AllFaces {
-    pub(crate) parts: Vec<Arc<SpanTable>>,
-    pub(crate) overs: Vec<Option<HeavyPlace>>,
-    pub(crate) heavy: [HeavyPairs; FACES],
 }
 
 impl NewFace {
     // The same of a face whose parts come after so many others.
-    pub(crate) fn on(self, place: usize) -> NewFace
-        requires order { self.parts.first ≤ self.parts.end }
-        requires fits { place + self.parts.end < 2 ^ 64 }
+    pub(crate) fn shifted_by(self, count: usize) -> NewFace
+        requires order { self.first ≤ self.end }
+        requires fits { count + self.end < 2 ^ 64 }
         ensures face { result.face ≡ self.face }
-        ensures first { result.parts.first ≡ place + self.parts.first }
-        ensures end { result.parts.end ≡ place + self.parts.end }
-        ensures parts { result.parts.parts ≡ self.parts.parts }
-        ensures overs { result.overs ≡ self.overs }
+        ensures first { result.first ≡ count + self.first }
+        ensures end { result.end ≡ count + self.end }
+        ensures parts { result.parts ≡ self.parts }
         ensures heavy { result.heavy ≡ self.heavy }
     {
         let NewFace {
             face,
+            first,
+            end,
             parts,
-            overs,
             heavy,
         } = self;
         NewFace {
             face,
-            parts: parts.on(place),
-            overs,
+            first: count + first,
+            end: count + end,
+            parts,
             heavy,
         }
-    }
-}
-
-impl AllFaces {
-    // No parts yet, with room for so many, and no heavy pairs. `OutOfMemory` if a growth is refused.
-    pub(crate) fn none(alloc: Global, count: usize) -> Result<AllFaces, OutOfMemory>
-        ensures parts { IfOk result (λ all. all.parts.items ≡ []) }
-        ensures overs { IfOk result (λ all. all.overs.items ≡ []) }
-        ensures heavy { IfOk result (λ all. length all.heavy ≡ 6) }
-    {
-        let parts = Vec::with_capacity(alloc, count)?;
-        let overs = Vec::with_capacity(alloc, count)?;
-        Ok(AllFaces {
-            parts,
-            overs,
-            heavy: [
-                HeavyPairs::none(),
-                HeavyPairs::none(),
-                HeavyPairs::none(),
-                HeavyPairs::none(),
-                HeavyPairs::none(),
-                HeavyPairs::none(),
-            ],
-        })
-    }
-
-    // Puts the next face behind those that there are: of its parts `before` those that stay are shared. O(p) for the p parts of the face.
-    // `OutOfMemory` if a growth is refused, or a part is shared too often.
-    pub(crate) fn push(
-        &mut self,
-        new: NewFace,
-        before: &[Arc<SpanTable>],
-        overs_before: &[Option<HeavyPlace>],
-    ) -> Result<(), OutOfMemory>
-        requires face { new.face < 6 }
-        requires order { new.parts.first ≤ new.parts.end }
-        requires within { new.parts.end ≤ length before.now }
-        requires overs_within { new.parts.end ≤ length overs_before.now }
-        ensures parts { OnOk result (spans_of self.new.parts.items
-            ≡ spans_of self.old.parts.items
-            ++ with_parts (spans_of before.now) new.parts.first new.parts.end (spans_of new.parts.parts.items)) }
-        ensures overs { OnOk result (self.new.overs.items
-            ≡ self.old.overs.items ++ (take new.parts.first overs_before.now ++ (new.overs.items ++ drop new.parts.end overs_before.now))) }
-        ensures heavy { OnOk result (self.new.heavy ≡ set self.old.heavy new.face new.heavy) }
-    {
-        let NewFace {
-            face,
-            parts,
-            mut overs,
-            heavy,
-        } = new;
-        let (front, _) = overs_before.split_at(parts.first);
-        let (_, back) = overs_before.split_at(parts.end);
-        self.overs.extend_from_slice(front)?;
-        self.overs.append(&mut overs)?;
-        self.overs.extend_from_slice(back)?;
-        parts.push_all(before, &mut self.parts)?;
-        self.heavy[face] = heavy;
-        Ok(())
-    }
-}
-
-impl NewParts {
-    // The same of parts that come after so many others.
-    pub(crate) fn on(self, place: usize) -> NewParts
-        requires order { self.first ≤ self.end }
-        requires fits { place + self.end < 2 ^ 64 }
-        ensures first { result.first ≡ place + self.first }
-        ensures end { result.end ≡ place + self.end }
-        ensures parts { result.parts ≡ self.parts }
-    {
-        let NewParts { first, end, parts } = self;
-        NewParts {
-            first: place + first,
-            end: place + end,
-            parts,
-        }
-    }
-
-    // Puts behind others all parts that there are then, of the parts `before`. Those that stay are shared. O(p) for p parts.
-    pub(crate) fn push_all(
-        self,
-        before: &[Arc<SpanTable>],
-        all: &mut Vec<Arc<SpanTable>>,
-    ) -> Result<(), AllocError>
-        requires order { self.first ≤ self.end }
-        requires within { self.end ≤ length before.now }
-        ensures { OnOk result (spans_of all.new.items
-            ≡ spans_of all.old.items ++ with_parts (spans_of before.now) self.first self.end (spans_of self.parts.items)) }
-    {
-        let NewParts {
-            first,
-            end,
-            mut parts,
-        } = self;
-        let (front, _) = before.split_at(first);
-        let (_, back) = before.split_at(end);
-        share(all, front)?;
-        all.append(&mut parts)?;
-        share(all, back)?;
-        Ok(())
     }
 }
 

@@ -3,7 +3,7 @@ ghost use Rattle.std.specs.Prelude.{◌≡◌, ◌≤◌, ◌%◌, IfOk, length,
 ghost use Rattle.s2ix_bag_lists.specs.Faces.{all_of};
 ghost use Rattle.s2ix_bag_pairs.specs.Collection.{IsCollection};
 ghost use Rattle.s2ix_table_spans.specs.SpanTable.{IsInSpan, IsSpanTable};
-ghost use Rattle.s2ix_table.specs.FaceSpans.{spans_of};
+ghost use Rattle.s2ix_table.specs.FaceSpans.{tables_of};
 ghost use Rattle.s2ix_table.specs.Joined.{AreNeighbours, held_in};
 ghost use Rattle.s2ix_table.specs.Parts.{AreSeams, BeginsFrom, EndsBy};
 
@@ -26,8 +26,8 @@ pub fn parts_over(
     requires rises { IsCollection (all_of held.now) }
     requires within_limit { length (all_of held.now) ≤ 1000000 }
     requires span { IsInSpan (all_of held.now) from to }
-    ensures neighbours { IfOk result (λ parts. AreNeighbours from (spans_of parts.items) to) }
-    ensures pairs { IfOk result (λ parts. held_in (spans_of parts.items) ≡ all_of held.now) }
+    ensures neighbours { IfOk result (λ parts. AreNeighbours from (tables_of parts.items) to) }
+    ensures pairs { IfOk result (λ parts. held_in (tables_of parts.items) ≡ all_of held.now) }
 {
     let all_seams = seams_before(alloc, held, to)?;
     let mut parts = Vec::with_capacity(alloc, held.len() + 1)?;

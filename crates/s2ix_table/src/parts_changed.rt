@@ -4,11 +4,12 @@ ghost use Rattle.s2ix_bag_lists.specs.Faces.{all_of};
 ghost use Rattle.s2ix_bag_pairs.specs.Change.{IsChangeList, changed};
 ghost use Rattle.s2ix_bag_pairs.specs.Collection.{AreBelow, IsCollection, IsCollectionFrom};
 ghost use Rattle.s2ix_table_spans.specs.SpanTable.{IsInSpan, IsSpanTable};
-ghost use Rattle.s2ix_table.specs.FaceSpans.{spans_of, table_of};
+ghost use Rattle.s2ix_table.specs.FaceSpans.{spans_of, table_of, tables_of};
 ghost use Rattle.s2ix_table.specs.Joined.{AreNeighbours, held_in};
 ghost use Rattle.s2ix_table.specs.Parts.{AreBegins, EntriesEndBy, IsChangedSpan, IsCut, with_parts};
 
 use crate::new_parts::NewParts;
+use crate::part::{Part, share_under};
 use crate::parts::{in_one_list, next_cut, parts_over, seams_before};
 use s2id_core::OutOfMemory;
 use s2ix_bag_lists::{FlatHeld, HeldList};
@@ -20,11 +21,38 @@ use std::sync::Arc;
 /// What a change makes of the parts `before` of a table, which together go over the leaves from the number `from` up to `to`. `held` is
 /// what the entries make of their pairs, in lists, each before the next one. The parts on both sides of all entries stay. Between them, a
 /// part that no entry's cell touches is shared; what the others hold is made anew, together with parts that a list reaches into. No clause
-/// says which parts stay, only the bench shows it. O(log p + q + m + k) for p parts, q of them from the first entry to the last one, m
-/// entries and the k pairs of the parts made anew. `OutOfMemory` if a growth is refused, or a part is shared too often.
+/// says which parts stay, only the bench shows it. O(p + m + k) for p parts, m entries and the k pairs of the parts made anew. `OutOfMemory` if a growth is refused, or a part is shared too often.
 pub fn parts_after(
     alloc: Global,
     before: &[Arc<SpanTable>],
+    held: &[HeldList],
+    entries: &[Entry],
+    from: u64,
+    to: u64,
+) -> Result<NewParts, OutOfMemory>
+    requires neighbours { AreNeighbours from (tables_of before.now) to }
+    requires made { changed (held_in (tables_of before.now)) entries.now ≡ all_of held.now }
+    requires entries_rise { IsChangeList entries.now }
+    requires rises { IsCollection (all_of held.now) }
+    requires within_limit { length (all_of held.now) ≤ 1000000 }
+    requires span { IsInSpan (all_of held.now) from to }
+    ensures order { IfOk result (λ new. new.first ≤ new.end) }
+    ensures within { IfOk result (λ new. new.end ≤ length before.now) }
+    ensures neighbours { IfOk result (λ new. AreNeighbours from
+        (with_parts (tables_of before.now) new.first new.end (tables_of new.parts.items))
+        to) }
+    ensures pairs { IfOk result (λ new. held_in (with_parts (tables_of before.now) new.first new.end (tables_of new.parts.items))
+        ≡ all_of held.now) }
+{
+    let mut parts = Vec::with_capacity(alloc, before.len())?;
+    share_under(&mut parts, before, None)?;
+    changed_parts(alloc, parts.as_slice(), held, entries, from, to)
+}
+
+// The same, of the parts of a face without heavy pairs. O(log p) in place of O(p).
+pub(crate) fn changed_parts(
+    alloc: Global,
+    before: &[Part],
     held: &[HeldList],
     entries: &[Entry],
     from: u64,
@@ -39,9 +67,9 @@ pub fn parts_after(
     ensures order { IfOk result (λ new. new.first ≤ new.end) }
     ensures within { IfOk result (λ new. new.end ≤ length before.now) }
     ensures neighbours { IfOk result (λ new. AreNeighbours from
-        (with_parts (spans_of before.now) new.first new.end (spans_of new.parts.items))
+        (with_parts (spans_of before.now) new.first new.end (tables_of new.parts.items))
         to) }
-    ensures pairs { IfOk result (λ new. held_in (with_parts (spans_of before.now) new.first new.end (spans_of new.parts.items))
+    ensures pairs { IfOk result (λ new. held_in (with_parts (spans_of before.now) new.first new.end (tables_of new.parts.items))
         ≡ all_of held.now) }
 {
     let all_begins = begins_from(alloc, entries)?;
@@ -80,7 +108,7 @@ fn begins_from(alloc: Global, entries: &[Entry]) -> Result<Vec<u64>, OutOfMemory
 // are those of the lists.
 #[derive(Clone, Copy)]
 struct Span<'a> {
-    tables: &'a [Arc<SpanTable>],
+    tables: &'a [Part],
     lists: &'a [HeldList],
     entries: &'a [Entry],
     from: u64,
@@ -118,9 +146,9 @@ impl<'a> Span<'a> {
         requires begins { AreBegins self.entries.now all_begins.now }
         ensures within { IfOk result (λ made. made.0 ≤ length self.entry.tables.now) }
         ensures neighbours { IfOk result (λ made. AreNeighbours self.entry.from
-            (spans_of made.1.items ++ drop made.0 (spans_of self.entry.tables.now))
+            (tables_of made.1.items ++ drop made.0 (spans_of self.entry.tables.now))
             self.entry.to) }
-        ensures pairs { IfOk result (λ made. held_in (spans_of made.1.items ++ drop made.0 (spans_of self.entry.tables.now))
+        ensures pairs { IfOk result (λ made. held_in (tables_of made.1.items ++ drop made.0 (spans_of self.entry.tables.now))
             ≡ all_of self.entry.lists.now) }
     {
         let mut rest = self;
@@ -148,7 +176,7 @@ impl<'a> Span<'a> {
     {
         let mut tables = last_by(self.tables, begins[0]);
         while tables > 0 {
-            let seam = self.tables[tables].from();
+            let seam = self.tables[tables].table().from();
             let cut = Cut {
                 tables,
                 lists: lists_below(self.lists, seam),
@@ -215,7 +243,7 @@ impl<'a> Span<'a> {
         ensures reach { EntriesEndBy (take result.entries self.entry.entries.now) result.reach }
     {
         let tables = cut.tables + 1;
-        let seam = self.tables[tables].from();
+        let seam = self.tables[tables].table().from();
         let mut entries = cut.entries;
         let mut reach = cut.reach;
         while entries < self.entries.len() && self.entries[entries].pair.cell.raw() < seam {
@@ -300,10 +328,10 @@ impl<'a> Span<'a> {
     fn push_changed(self, alloc: Global, parts: &mut Vec<Arc<SpanTable>>) -> Result<(), OutOfMemory>
         requires some { 0 < length self.tables.now }
         requires changed { IsChangedSpan (spans_of self.tables.now) self.lists.now self.entries.now self.from self.to }
-        ensures neighbours { OnOk result ((first : ℕ) → AreNeighbours first (spans_of parts.old.items) self.entry.from
-            → AreNeighbours first (spans_of parts.new.items) self.entry.to) }
-        ensures pairs { OnOk result (held_in (spans_of parts.new.items)
-            ≡ held_in (spans_of parts.old.items) ++ all_of self.entry.lists.now) }
+        ensures neighbours { OnOk result ((first : ℕ) → AreNeighbours first (tables_of parts.old.items) self.entry.from
+            → AreNeighbours first (tables_of parts.new.items) self.entry.to) }
+        ensures pairs { OnOk result (held_in (tables_of parts.new.items)
+            ≡ held_in (tables_of parts.old.items) ++ all_of self.entry.lists.now) }
     {
         if let Some(part) = self.one_part(alloc)? {
             parts.push(part)?;
@@ -326,14 +354,14 @@ impl<'a> Span<'a> {
             return Ok(None);
         }
         if self.entries.is_empty() {
-            let shared = self.tables[0].clone()?;
+            let shared = self.tables[0].shared_table()?;
             return Ok(Some(shared));
         }
         if !self.stays_whole(alloc)? {
             return Ok(None);
         }
         let list = in_one_list(alloc, self.lists)?;
-        let table = self.tables[0].after(alloc, list)?;
+        let table = self.tables[0].table().after(alloc, list)?;
         let shared = Arc::new(alloc, table)?;
         Ok(Some(shared))
     }
@@ -350,15 +378,15 @@ impl<'a> Span<'a> {
     }
 }
 
-// The number of the last table that begins by a leaf number, or 0 if only the first one may. O(log p) for p tables.
-pub(crate) fn last_by(tables: &[Arc<SpanTable>], leaf: u64) -> usize
-    ensures { 0 < result → result < length tables.now }
+// The number of the last part that begins by a leaf number, or 0 if only the first one may. O(log p) for p parts.
+pub(crate) fn last_by(parts: &[Part], leaf: u64) -> usize
+    ensures { 0 < result → result < length parts.now }
 {
     let mut low = 0;
-    let mut high = tables.len();
+    let mut high = parts.len();
     while low < high {
         let middle = low + (high - low) / 2;
-        if tables[middle].from() <= leaf {
+        if parts[middle].table().from() <= leaf {
             low = middle + 1;
         } else {
             high = middle;

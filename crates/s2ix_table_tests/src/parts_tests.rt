@@ -1,7 +1,7 @@
 //! The parts of a table, compared with one table over all leaves.
 ghost use Rattle.std.specs.Prelude.{◌≡◌, ◌<◌, IfSome, length};
 ghost use Rattle.s2ix_bag_lists.specs.Faces.{all_of};
-ghost use Rattle.s2ix_table.specs.FaceSpans.{spans_of};
+ghost use Rattle.s2ix_table.specs.FaceSpans.{tables_of};
 ghost use Rattle.s2ix_table.specs.Joined.{AreNeighbours, held_in};
 ghost use Rattle.s2ix_table_walk.specs.Table.{leaf_end};
 
@@ -61,8 +61,8 @@ fn lists_of(alloc: Global, held: &[FlatHeld], size: usize) -> Option<Vec<HeldLis
 // The parts of what a bag holds.
 fn parts_of(alloc: Global, bag: &Bag, size: usize) -> Option<Vec<Arc<SpanTable>>>
     requires { 0 < size }
-    ensures neighbours { IfSome result (λ parts. AreNeighbours 1 (spans_of parts.items) leaf_end) }
-    ensures pairs { IfSome result (λ parts. held_in (spans_of parts.items) ≡ bag.now.held) }
+    ensures neighbours { IfSome result (λ parts. AreNeighbours 1 (tables_of parts.items) leaf_end) }
+    ensures pairs { IfSome result (λ parts. held_in (tables_of parts.items) ≡ bag.now.held) }
 {
     let held = bag.flat(alloc).ok()?;
     let lists = lists_of(alloc, held.as_slice(), size)?;

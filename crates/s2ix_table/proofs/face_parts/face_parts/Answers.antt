@@ -1,10 +1,8 @@
 use Rattle.std.proofs.Common.{◌≡◌, ◌+◌, ◌*◌, ℕ, List, [], length, replicate, None, Result, Ok, Err, IfOk, sym, ap, ap₂, ◌∙◌, subst, subst₂, arith, rules}
-use Rattle.std.proofs.lemmas.List.{length-map}
-use Rattle.std.specs.Arc.{arc_value}
 use Rattle.s2ix_bag_lists.specs.Faces.{all_of}
 use Rattle.s2ix_bag_pairs.specs.Collection.{Collection}
-use Rattle.s2ix_table_spans.specs.SpanTable.{IsInSpan}
-use Rattle.s2ix_table.specs.FaceSpans.{AreOnFace, face_begin, spans_of}
+use Rattle.s2ix_table_spans.specs.SpanTable.{IsInSpan, SpanRanges}
+use Rattle.s2ix_table.specs.FaceSpans.{AreOnFace, face_begin, overs_of, spans_of, tables_of}
 use Rattle.s2ix_table.specs.Joined.{AreNeighbours, held_in}
 use Rattle.s2ix_table.specs.Layered.{AreLightParts, IsFaceLayered}
 use Rattle.s2ix_table.specs.Layers.{together}
@@ -52,7 +50,7 @@ returns-in-Some-clause-layered c =
     let chunks = c.in_ok-layers.layers.chunks.items in
     let is = c.in_ok-layers.ensures in
     let parts = spans_of made.parts.items in
-    let overs = made.overs.items in
+    let overs = overs_of made.parts.items in
     let all : c.as_slice-then-has_large.result.now ≡ c.args.held.now = c.as_slice-then-has_large.ensures.value ∙ c.in_ok-all.ensures in
     let on = subst (AreOnFace c.args.face) (sym all) c.requires.on_face in
     let same : made.heavy ≡ chunks = search rules in
@@ -64,23 +62,26 @@ returns-in-Some-clause-layered c =
 
 pub returns-clause-layered : goal.returns-clause-layered
 returns-clause-layered c =
-    let parts = c.in_ok-parts.parts in
+    let tables = tables_of c.in_ok-tables.tables.items in
     let face = c.args.face in
-    let are : AreNeighbours (face_begin face) (spans_of parts.items) (face_begin (face + 1)) =
-    subst₂ (λ (a b : ℕ). AreNeighbours a (spans_of parts.items) b) (sym (begins_at face c.from.result c.from.ensures))
-    (sym (ends_at face c.from.result c.from.ensures)) c.in_ok-parts.ensures.neighbours in
+    let are : AreNeighbours (face_begin face) tables (face_begin (face + 1)) =
+    subst₂ (λ (a b : ℕ). AreNeighbours a tables b) (sym (begins_at face c.from.result c.from.ensures))
+    (sym (ends_at face c.from.result c.from.ensures)) c.in_ok-tables.ensures.neighbours in
     let is = c.plain.ensures in
-    if_ok c.plain.result (λ f. f.parts ≡ parts) (λ f. f.heavy ≡ []) (λ f. f.overs.items ≡ replicate (length parts.items) None)
-    (λ f. IsFaceLayered face f.heavy (spans_of f.parts.items) f.overs.items) is.parts is.heavy is.overs
-    (λ f same none all. all_light face (spans_of parts.items) (spans_of f.parts.items) f.heavy f.overs.items are
-    (ap (λ v. spans_of v.items) same) none (all ∙ ap (λ (n : ℕ). replicate n None) (sym (length-map parts.items arc_value))))
+    let own = ap tables_of c.as_slice-2.ensures.value in
+    if_ok c.plain.result (λ f. spans_of f.parts.items ≡ tables_of c.as_slice-2.result.now) (λ f. f.heavy ≡ [])
+    (λ f. overs_of f.parts.items ≡ replicate (length (tables_of c.as_slice-2.result.now)) None)
+    (λ f. IsFaceLayered face f.heavy (spans_of f.parts.items) (overs_of f.parts.items)) is.parts is.heavy is.overs
+    (λ f same none all. all_light face tables (spans_of f.parts.items) f.heavy (overs_of f.parts.items) are
+    (same ∙ own) none (all ∙ ap (λ (ts : List SpanRanges). replicate (length ts) None) own))
 
 pub returns-clause-pairs : goal.returns-clause-pairs
 returns-clause-pairs c =
-    let parts = c.in_ok-parts.parts in
     let is = c.plain.ensures in
-    let all : held_in (spans_of parts.items) ≡ c.args.held.now = c.in_ok-parts.ensures.pairs ∙ c.parts.ensures.list in
-    if_ok c.plain.result (λ f. f.parts ≡ parts) (λ f. f.heavy ≡ []) (λ f. f.overs.items ≡ replicate (length parts.items) None)
+    let own = ap (λ ts. held_in (tables_of ts)) c.as_slice-2.ensures.value in
+    let all = c.in_ok-tables.ensures.pairs ∙ c.parts.ensures.list in
+    if_ok c.plain.result (λ f. spans_of f.parts.items ≡ tables_of c.as_slice-2.result.now) (λ f. f.heavy ≡ [])
+    (λ f. overs_of f.parts.items ≡ replicate (length (tables_of c.as_slice-2.result.now)) None)
     (λ f. together (held_in (spans_of f.parts.items)) (all_of f.heavy) ≡ c.args.held.now) is.parts is.heavy is.overs
-    (λ f same none _. ap₂ (λ (hs : Collection) (cs : List Collection). together hs (all_of cs)) (ap (λ v. held_in (spans_of v.items)) same) none
-    ∙ together_none (held_in (spans_of parts.items)) ∙ all)
+    (λ f same none _. ap₂ (λ (hs : Collection) (cs : List Collection). together hs (all_of cs)) (ap (λ ts. held_in ts) same) none
+    ∙ together_none (held_in (tables_of c.as_slice-2.result.now)) ∙ own ∙ all)

@@ -4,7 +4,7 @@ use Rattle.std.specs.Arc.{arc_value}
 use Rattle.s2ix_bag_lists.specs.Faces.{all_of}
 use Rattle.s2ix_bag_pairs.specs.Collection.{Collection, IsCollection}
 use Rattle.s2ix_table_spans.specs.SpanTable.{IsInSpan}
-use Rattle.s2ix_table.specs.FaceSpans.{spans_of}
+use Rattle.s2ix_table.specs.FaceSpans.{tables_of}
 use Rattle.s2ix_table.proofs.Parting.{seams_count, parting_start, parting_next, parting_same, parting_end, own_rises, own_count}
 use Rattle.s2ix_table.proofs.parts.parts_over.Goals as goal
 
@@ -12,10 +12,10 @@ pub loop-start-init : goal.loop-start-init
 loop-start-init c =
     let r = c.requires in
     let seams = c.in_ok-all_seams.all_seams.items in
-    parting_same c.args.held.now c.args.from c.args.to [] (spans_of c.in_ok-parts.parts.items) c.args.held.now c.args.held.now seams
+    parting_same c.args.held.now c.args.from c.args.to [] (tables_of c.in_ok-parts.parts.items) c.args.held.now c.args.held.now seams
     c.as_slice-seams.result.now c.args.from c.args.from
     (parting_start c.args.held.now c.args.from c.args.to seams r.rises r.within_limit r.span c.in_ok-all_seams.ensures)
-    (ap spans_of c.in_ok-parts.ensures.items) refl c.as_slice-seams.ensures.value refl
+    (ap tables_of c.in_ok-parts.ensures.items) refl c.as_slice-seams.ensures.value refl
 
 pub bounds-seams-count : goal.bounds-seams-count
 bounds-seams-count c =
@@ -61,19 +61,19 @@ loop-start-preserved c =
     let parts = c.loop-start.parts.items in
     let made = c.in_ok-part_over.ensures in
     let next =
-    parting_next c.args.held.now c.args.from c.args.to (spans_of parts) rest bs c.loop-start.start k 0 part.value was
+    parting_next c.args.held.now c.args.from c.args.to (tables_of parts) rest bs c.loop-start.start k 0 part.value was
     c.next_cut-count.ensures.within (made.pairs ∙ ap (λ (ls : List Collection). all_of ls) c.split_at.ensures.front) made.begins made.ends made.table in
-    let tables : spans_of (parts ++ part ∷ []) ≡ spans_of parts ++ part.value ∷ [] = map-append arc_value parts (part ∷ []) in
-    parting_same c.args.held.now c.args.from c.args.to (spans_of parts ++ part.value ∷ []) (spans_of c.push.new.self.items) (drop k rest)
+    let tables : tables_of (parts ++ part ∷ []) ≡ tables_of parts ++ part.value ∷ [] = map-append arc_value parts (part ∷ []) in
+    parting_same c.args.held.now c.args.from c.args.to (tables_of parts ++ part.value ∷ []) (tables_of c.push.new.self.items) (drop k rest)
     c.split_at.result.1.now (drop k bs) c.split_at-in-loop-start.result.1.now part.value.to (get_or bs k 0) next
-    (ap spans_of c.in_ok-push.ensures.items ∙ tables) c.split_at.ensures.back c.split_at-in-loop-start.ensures.back made.ends
+    (ap tables_of c.in_ok-push.ensures.items ∙ tables) c.split_at.ensures.back c.split_at-in-loop-start.ensures.back made.ends
 
 pub returns-clause-neighbours : goal.returns-clause-neighbours
 returns-clause-neighbours c =
-    (parting_end c.args.held.now c.args.from c.args.to (spans_of c.loop-start.parts.items) c.loop-start.rest.now c.loop-start.seams.now
+    (parting_end c.args.held.now c.args.from c.args.to (tables_of c.loop-start.parts.items) c.loop-start.rest.now c.loop-start.seams.now
     c.loop-start.start c.loop-start.invariant c.loop-start-test.false).0
 
 pub returns-clause-pairs : goal.returns-clause-pairs
 returns-clause-pairs c =
-    (parting_end c.args.held.now c.args.from c.args.to (spans_of c.loop-start.parts.items) c.loop-start.rest.now c.loop-start.seams.now
+    (parting_end c.args.held.now c.args.from c.args.to (tables_of c.loop-start.parts.items) c.loop-start.rest.now c.loop-start.seams.now
     c.loop-start.start c.loop-start.invariant c.loop-start-test.false).1

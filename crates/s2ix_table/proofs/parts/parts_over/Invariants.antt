@@ -1,10 +1,10 @@
 use Rattle.std.proofs.Common.{◌-◌}
-use Rattle.s2ix_table.specs.FaceSpans.{spans_of}
+use Rattle.s2ix_table.specs.FaceSpans.{tables_of}
 use Rattle.s2ix_table.proofs.Parting.{Parting}
 use Rattle.s2ix_table.proofs.parts.parts_over.Given as goal
 
 abbrev pub invariant-loop-start : goal.invariant-loop-start
-invariant-loop-start l = Parting l.held l.from l.to (spans_of l.parts.items) l.rest l.seams l.start
+invariant-loop-start l = Parting l.held l.from l.to (tables_of l.parts.items) l.rest l.seams l.start
 
 abbrev pub decreases-loop-start : goal.decreases-loop-start
 decreases-loop-start l = l.to - l.start

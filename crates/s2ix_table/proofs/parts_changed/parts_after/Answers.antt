@@ -1,78 +1,42 @@
-use Rattle.std.proofs.Common.{◌≡◌, ℕ, ◌+◌, List, ◌++◌, length, take, drop, sym, ap, ◌∙◌, subst, arith}
-use Rattle.std.proofs.lemmas.List.{length-map, length-drop}
+-- Parts of the same tables.
+use Rattle.std.proofs.Common.{◌≡◌, ◌≤◌, IfOk, length, sym, ap, ◌∙◌, subst}
+use Rattle.std.proofs.lemmas.List.{length-map}
 use Rattle.std.specs.Arc.{arc_value}
 use Rattle.s2ix_bag_lists.specs.Faces.{all_of}
 use Rattle.s2ix_bag_pairs.specs.Change.{changed}
-use Rattle.s2ix_bag_pairs.specs.Collection.{Collection}
-use Rattle.s2ix_bag_pairs.specs.declared.pair.Entry.{Entry}
-use Rattle.s2ix_table_spans.specs.SpanTable.{SpanRanges}
-use Rattle.s2ix_table.specs.FaceSpans.{spans_of}
+use Rattle.s2ix_table.specs.FaceSpans.{spans_of, tables_of}
 use Rattle.s2ix_table.specs.Joined.{AreNeighbours, held_in}
-use Rattle.s2ix_table.specs.Parts.{AreBegins}
-use Rattle.s2ix_table.proofs.Parting.{split_lists}
-use Rattle.s2ix_table.proofs.Cutting.{changed_same, spans_dropped, neighbours_append, held_append}
-use Rattle.s2ix_table.proofs.OneFace.{drop_on}
+use Rattle.s2ix_table.specs.Parts.{with_parts}
+use Rattle.s2ix_table.proofs.Shared.{alone_spans, many_shared}
+use Rattle.s2ix_table.proofs.parts_changed.parts_after.Goals.{After-as_slice}
 use Rattle.s2ix_table.proofs.parts_changed.parts_after.Goals as goal
 
-pub made_anew-requires-clause-changed : goal.made_anew-requires-clause-changed
-made_anew-requires-clause-changed c =
-    let before = c.args.before.now in
-    let front = c.front_cut-front.result in
-    let cut = c.front_cut-front.ensures.cut in
-    let later = c.after.result in
-    let is = c.after.ensures in
-    changed_same (drop front.tables (spans_of before)) (spans_of later.tables.now) (drop front.lists c.args.held.now) later.lists.now
-    (drop front.entries c.args.entries.now) later.entries.now front.seam later.from c.args.to later.to cut.later
-    (ap spans_of is.tables ∙ spans_dropped front.tables before) is.lists is.entries is.from is.to
+own : (c : After-as_slice) → spans_of c.as_slice.result.now ≡ tables_of c.args.before.now
+own c =
+    ap spans_of c.as_slice.ensures.value
+    ∙ alone_spans c.in_ok-parts.parts.items c.share_under.new.parts.items (tables_of c.args.before.now) c.in_ok-parts.ensures.items
+    c.in_ok-share_under.ensures.tables
 
-pub made_anew-requires-clause-begins : goal.made_anew-requires-clause-begins
-made_anew-requires-clause-begins c =
-    let is = c.after.ensures in
-    let none = c.front_cut-front.ensures.entries in
-    subst (λ (es : List Entry). AreBegins es c.as_slice-2.result.now) (sym (is.entries ∙ ap (λ (n : ℕ). drop n c.args.entries.now) none))
-    (subst (λ (bs : List ℕ). AreBegins c.args.entries.now bs) (sym c.as_slice-2.ensures.value) c.in_ok-all_begins.ensures)
+pub changed_parts-requires-clause-neighbours : goal.changed_parts-requires-clause-neighbours
+changed_parts-requires-clause-neighbours c =
+    subst (λ ts. AreNeighbours c.args.from ts c.args.to) (sym (own (goal.at-changed_parts-requires-clause-neighbours c).After-as_slice)) c.requires.neighbours
+
+pub changed_parts-requires-clause-made : goal.changed_parts-requires-clause-made
+changed_parts-requires-clause-made c =
+    ap (λ ts. changed (held_in ts) c.args.entries.now) (own (goal.at-changed_parts-requires-clause-made c).After-as_slice) ∙ c.requires.made
 
 pub returns-clause-within : goal.returns-clause-within
 returns-clause-within c =
-    let front = c.front_cut-front.result in
-    let fit = c.front_cut-front.ensures.cut.tables_fit in
-    let many = length-map c.args.before.now arc_value in
-    let left = ap length c.after.ensures.tables in
-    let behind = length-drop front.tables c.args.before.now in
-    let own = c.in_ok-count.ensures.within in
-    omega arith
+    let many = sym (many_shared c.as_slice.result.now) ∙ ap length (own (goal.at-returns-clause-within c).After-as_slice)
+    ∙ length-map c.args.before.now arc_value in
+    subst (λ n. IfOk c.changed_parts.result (λ new. new.end ≤ n)) many c.changed_parts.ensures.within
 
 pub returns-clause-neighbours : goal.returns-clause-neighbours
 returns-clause-neighbours c =
-    let spans = spans_of c.args.before.now in
-    let front = c.front_cut-front.result in
-    let is = c.after.ensures in
-    let made = spans_of c.in_ok-count.parts.items in
-    let count = c.in_ok-count.count in
-    let tail : drop count (spans_of c.after.result.tables.now) ≡ drop (front.tables + count) spans =
-    ap (λ ts. drop count ts) (ap spans_of is.tables ∙ spans_dropped front.tables c.args.before.now) ∙ drop_on front.tables count spans in
-    let back =
-    subst (λ (ts : List SpanRanges). AreNeighbours front.seam (made ++ ts) c.args.to) tail
-    (subst (λ (n : ℕ). AreNeighbours front.seam (made ++ drop count (spans_of c.after.result.tables.now)) n) is.to
-    (subst (λ (n : ℕ). AreNeighbours n (made ++ drop count (spans_of c.after.result.tables.now)) c.after.result.to) is.from c.in_ok-count.ensures.neighbours)) in
-    neighbours_append c.args.from (take front.tables spans) front.seam (made ++ drop (front.tables + count) spans) c.args.to
-    c.front_cut-front.ensures.cut.own.neighbours back
+    subst (λ ts. IfOk c.changed_parts.result (λ new. AreNeighbours c.args.from (with_parts ts new.first new.end (tables_of new.parts.items)) c.args.to))
+    (own (goal.at-returns-clause-neighbours c).After-as_slice) c.changed_parts.ensures.neighbours
 
 pub returns-clause-pairs : goal.returns-clause-pairs
 returns-clause-pairs c =
-    let spans = spans_of c.args.before.now in
-    let held = c.args.held.now in
-    let front = c.front_cut-front.result in
-    let is = c.after.ensures in
-    let made = spans_of c.in_ok-count.parts.items in
-    let count = c.in_ok-count.count in
-    let tail : drop count (spans_of c.after.result.tables.now) ≡ drop (front.tables + count) spans =
-    ap (λ ts. drop count ts) (ap spans_of is.tables ∙ spans_dropped front.tables c.args.before.now) ∙ drop_on front.tables count spans in
-    let first : held_in (take front.tables spans) ≡ all_of (take front.lists held) =
-    sym (ap (λ (n : ℕ). changed (held_in (take front.tables spans)) (take n c.args.entries.now)) c.front_cut-front.ensures.entries)
-    ∙ c.front_cut-front.ensures.cut.own.made in
-    let last = ap (λ (ts : List SpanRanges). held_in (made ++ ts)) (sym tail) ∙ c.in_ok-count.ensures.pairs ∙ ap all_of is.lists in
-    held_append (take front.tables spans) (made ++ drop (front.tables + count) spans)
-    ∙ ap (λ (hs : Collection). held_in (take front.tables spans) ++ hs) last
-    ∙ ap (λ (hs : Collection). hs ++ all_of (drop front.lists held)) first
-    ∙ split_lists front.lists held
+    subst (λ ts. IfOk c.changed_parts.result (λ new. held_in (with_parts ts new.first new.end (tables_of new.parts.items)) ≡ all_of c.args.held.now))
+    (own (goal.at-returns-clause-pairs c).After-as_slice) c.changed_parts.ensures.pairs

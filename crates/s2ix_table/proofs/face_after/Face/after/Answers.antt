@@ -5,7 +5,6 @@ use Rattle.s2ix_bag_pairs.specs.Collection.{Collection}
 use Rattle.s2ix_table.specs.FaceSpans.{AreOnFace, spans_of}
 use Rattle.s2ix_table.specs.Joined.{held_in}
 use Rattle.s2ix_table.specs.Layers.{together}
-use Rattle.s2ix_table.proofs.FaceWith.{length_overs}
 use Rattle.s2ix_table.proofs.NoHeavy.{together_none}
 use Rattle.s2ix_table.proofs.face_after.Face.after.Goals as goal
 
@@ -16,11 +15,6 @@ parts_after-requires-clause-made c =
     let none = c.is_empty.ensures.0 c.if-is_empty.true in
     let same = sym (ap (λ cs. together light (all_of cs)) none ∙ together_none light) in
     ap (λ (hs : Collection). changed hs c.args.entries.now) same ∙ c.requires.made
-
-pub made_anew-requires-clause-overs : goal.made_anew-requires-clause-overs
-made_anew-requires-clause-overs c =
-    let f = c.args.self in
-    length_overs f.heavy.now (spans_of f.parts.now) f.overs.now c.requires.layered.overs_are
 
 pub layers_after-requires-clause-on_face : goal.layers_after-requires-clause-on_face
 layers_after-requires-clause-on_face c = subst (AreOnFace c.args.self.face) (sym c.requires.made) c.requires.on_face

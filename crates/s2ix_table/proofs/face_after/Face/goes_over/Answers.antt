@@ -1,5 +1,5 @@
 -- A cell that lies within a part goes over none.
-use Rattle.std.proofs.Common.{◌≡◌, ◌+◌, ◌*◌, ◌<◌, length, ap, sym, ◌∙◌, arith, rules}
+use Rattle.std.proofs.Common.{◌≡◌, ◌+◌, ◌*◌, ◌<◌, length, ap, sym, ◌∙◌, arith}
 use Rattle.std.proofs.lemmas.Bool.{both_ways}
 use Rattle.s2ix_bag_lists.specs.Faces.{all_of}
 use Rattle.s2ix_table_spans.specs.SpanTable.{SpanRanges}
@@ -17,8 +17,7 @@ returns-then-end-next c =
     let k = c.last_by-part.result in
     let part = c.index-self-part.result in
     let lt : k < length f.parts.now = omega arith in
-    let shown : c.deref.result.now ≡ part.value = search rules in
-    let seen = shown ∙ seen_at f.parts.now k part part.value lt (ap (λ x. x.value) c.index-self-part.is) in
+    let seen = seen_at f.parts.now k part c.table.result.now lt c.table.ensures in
     let begins : c.from-2.result ≡ (table_of ts k).from = c.from-2.ensures.from ∙ ap (λ (s : SpanRanges). s.from) seen in
     let start = c.span_start-begin.ensures in
     let end = c.span_end-end.ensures in

@@ -2,7 +2,7 @@ use Rattle.std.proofs.Common.{◌≡◌, ◌+◌, ◌*◌, length, refl, sym, ap
 use Rattle.s2ix_bag_lists.specs.Faces.{all_of}
 use Rattle.s2ix_bag_pairs.specs.Change.{changed}
 use Rattle.s2ix_table_heavy.specs.Chunks.{AreChunks}
-use Rattle.s2ix_table.specs.FaceSpans.{face_begin, spans_of}
+use Rattle.s2ix_table.specs.FaceSpans.{face_begin, overs_of, spans_of}
 use Rattle.s2ix_table.specs.Joined.{held_in}
 use Rattle.s2ix_table.specs.Layered.{AreLightParts}
 use Rattle.s2ix_table.proofs.HeavyChanged.{under_chunks}
@@ -21,12 +21,12 @@ returns-clause-with c =
     let under = c.in-Some.under in
     let made = spans_of under.parts.items in
     let same : under.heavy ≡ c.in_ok-heavy.heavy = search rules in
-    let laid : AreLightParts c.in_ok-heavy.heavy (held_in ts) (c.from.result * 2305843009213693952 + 1) made under.overs.items
+    let laid : AreLightParts c.in_ok-heavy.heavy (held_in ts) (c.from.result * 2305843009213693952 + 1) made (overs_of under.parts.items)
     (c.from.result * 2305843009213693952 + 1 + 2305843009213693952) = search rules in
-    let on_face : AreLightParts c.in_ok-heavy.heavy (held_in ts) (face_begin f.face) made under.overs.items (face_begin (f.face + 1)) =
-    subst₂ (λ a b. AreLightParts c.in_ok-heavy.heavy (held_in ts) a made under.overs.items b) (sym (begins_at f.face c.from.result c.from.ensures))
+    let on_face : AreLightParts c.in_ok-heavy.heavy (held_in ts) (face_begin f.face) made (overs_of under.parts.items) (face_begin (f.face + 1)) =
+    subst₂ (λ a b. AreLightParts c.in_ok-heavy.heavy (held_in ts) a made (overs_of under.parts.items) b) (sym (begins_at f.face c.from.result c.from.ensures))
     (sym (ends_at f.face c.from.result c.from.ensures)) laid in
-    under_chunks f.face many 0 many ts made f.overs.now under.overs.items f.heavy.now under.heavy es refl refl (sym (many_shared f.parts.now))
+    under_chunks f.face many 0 many ts made (overs_of f.parts.now) (overs_of under.parts.items) f.heavy.now under.heavy es refl refl (sym (many_shared f.parts.now))
     c.requires.layered c.requires.entries_rise c.requires.apart c.requires.on_face (subst AreChunks (sym (same ∙ heavy)) c.in_ok-chunks.ensures.chunks)
     (ap all_of (same ∙ heavy) ∙ c.in_ok-chunks.ensures.pairs ∙ ap (λ cs. changed (all_of cs) es) c.chunks.ensures)
-    (subst (λ cs. AreLightParts cs (held_in ts) (face_begin f.face) made under.overs.items (face_begin (f.face + 1))) (sym same) on_face)
+    (subst (λ cs. AreLightParts cs (held_in ts) (face_begin f.face) made (overs_of under.parts.items) (face_begin (f.face + 1))) (sym same) on_face)

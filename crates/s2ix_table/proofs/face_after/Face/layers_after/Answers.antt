@@ -3,7 +3,7 @@ use Rattle.std.proofs.Common.{◌≡◌, ◌≤◌, length, refl, sym, ◌∙◌
 use Rattle.s2ix_bag_lists.specs.Faces.{all_of}
 use Rattle.s2ix_bag_pairs.specs.Change.{IsChangeList, changed}
 use Rattle.s2ix_bag_pairs.specs.Collection.{Collection}
-use Rattle.s2ix_table.specs.FaceSpans.{spans_of}
+use Rattle.s2ix_table.specs.FaceSpans.{overs_of, spans_of}
 use Rattle.s2ix_table.specs.Joined.{held_in}
 use Rattle.s2ix_table.specs.Layered.{IsFaceLayered, IsFaceWith, goes_over}
 use Rattle.s2ix_table.specs.Layers.{fails, together}
@@ -17,7 +17,7 @@ heavy_after-requires-clause-entries_rise c =
     let f = c.args.self in
     let ts = spans_of f.parts.now in
     let own : c.in-Some.own.heavy.items ≡ over_entries ts f.heavy.now c.args.entries.now = search rules in
-    (are_over f.face ts f.overs.now f.heavy.now c.args.entries.now c.as_slice.result.now c.requires.layered c.requires.entries_rise
+    (are_over f.face ts (overs_of f.parts.now) f.heavy.now c.args.entries.now c.as_slice.result.now c.requires.layered c.requires.entries_rise
     c.requires.on_face c.requires.within_limit (c.as_slice.ensures.value ∙ own)).rise
 
 pub heavy_after-requires-clause-apart : goal.heavy_after-requires-clause-apart
@@ -25,7 +25,7 @@ heavy_after-requires-clause-apart c =
     let f = c.args.self in
     let ts = spans_of f.parts.now in
     let own : c.in-Some.own.heavy.items ≡ over_entries ts f.heavy.now c.args.entries.now = search rules in
-    (are_over f.face ts f.overs.now f.heavy.now c.args.entries.now c.as_slice.result.now c.requires.layered c.requires.entries_rise
+    (are_over f.face ts (overs_of f.parts.now) f.heavy.now c.args.entries.now c.as_slice.result.now c.requires.layered c.requires.entries_rise
     c.requires.on_face c.requires.within_limit (c.as_slice.ensures.value ∙ own)).apart
 
 pub heavy_after-requires-clause-on_face : goal.heavy_after-requires-clause-on_face
@@ -33,7 +33,7 @@ heavy_after-requires-clause-on_face c =
     let f = c.args.self in
     let ts = spans_of f.parts.now in
     let own : c.in-Some.own.heavy.items ≡ over_entries ts f.heavy.now c.args.entries.now = search rules in
-    (are_over f.face ts f.overs.now f.heavy.now c.args.entries.now c.as_slice.result.now c.requires.layered c.requires.entries_rise
+    (are_over f.face ts (overs_of f.parts.now) f.heavy.now c.args.entries.now c.as_slice.result.now c.requires.layered c.requires.entries_rise
     c.requires.on_face c.requires.within_limit (c.as_slice.ensures.value ∙ own)).on_face
 
 pub heavy_after-requires-clause-within_limit : goal.heavy_after-requires-clause-within_limit
@@ -41,7 +41,7 @@ heavy_after-requires-clause-within_limit c =
     let f = c.args.self in
     let ts = spans_of f.parts.now in
     let own : c.in-Some.own.heavy.items ≡ over_entries ts f.heavy.now c.args.entries.now = search rules in
-    (are_over f.face ts f.overs.now f.heavy.now c.args.entries.now c.as_slice.result.now c.requires.layered c.requires.entries_rise
+    (are_over f.face ts (overs_of f.parts.now) f.heavy.now c.args.entries.now c.as_slice.result.now c.requires.layered c.requires.entries_rise
     c.requires.on_face c.requires.within_limit (c.as_slice.ensures.value ∙ own)).within_limit
 
 pub and_light-requires-clause-layered : goal.and_light-requires-clause-layered
@@ -50,14 +50,14 @@ and_light-requires-clause-layered c =
     let es = c.args.entries.now in
     let ts = spans_of f.parts.now in
     let under = c.in-Some-2.under in
-    let shown = spans_of under.parts.parts.items in
+    let shown = spans_of under.parts.items in
     let own : c.in-Some.own.heavy.items ≡ over_entries ts f.heavy.now es = search rules in
-    let first : under.parts.first ≡ 0 = search rules in
-    let end : under.parts.end ≡ length ts = search rules in
-    let with : IsFaceWith f.face (changed (together (held_in ts) (all_of f.heavy.now)) c.as_slice.result.now) ts f.overs.now under.parts.first
-    under.parts.end shown under.overs.items under.heavy = search rules in
-    (over_first f.face ts shown f.overs.now under.overs.items f.heavy.now under.heavy es c.as_slice.result.now (other_entries ts f.heavy.now es)
-    under.parts.first under.parts.end c.requires.layered c.requires.entries_rise (c.as_slice.ensures.value ∙ own) refl first end with).0
+    let first : under.first ≡ 0 = search rules in
+    let end : under.end ≡ length ts = search rules in
+    let with : IsFaceWith f.face (changed (together (held_in ts) (all_of f.heavy.now)) c.as_slice.result.now) ts (overs_of f.parts.now) under.first
+    under.end shown (overs_of under.parts.items) under.heavy = search rules in
+    (over_first f.face ts shown (overs_of f.parts.now) (overs_of under.parts.items) f.heavy.now under.heavy es c.as_slice.result.now (other_entries ts f.heavy.now es)
+    under.first under.end c.requires.layered c.requires.entries_rise (c.as_slice.ensures.value ∙ own) refl first end with).0
 
 pub and_light-requires-clause-entries_rise : goal.and_light-requires-clause-entries_rise
 and_light-requires-clause-entries_rise c =
@@ -74,15 +74,15 @@ and_light-requires-clause-within_limit c =
     let es = c.args.entries.now in
     let ts = spans_of f.parts.now in
     let under = c.in-Some-2.under in
-    let shown = spans_of under.parts.parts.items in
+    let shown = spans_of under.parts.items in
     let own : c.in-Some.own.heavy.items ≡ over_entries ts f.heavy.now es = search rules in
     let light : c.in-Some.own.light.items ≡ other_entries ts f.heavy.now es = search rules in
-    let first : under.parts.first ≡ 0 = search rules in
-    let end : under.parts.end ≡ length ts = search rules in
-    let with : IsFaceWith f.face (changed (together (held_in ts) (all_of f.heavy.now)) c.as_slice.result.now) ts f.overs.now under.parts.first
-    under.parts.end shown under.overs.items under.heavy = search rules in
-    let then = (over_first f.face ts shown f.overs.now under.overs.items f.heavy.now under.heavy es c.as_slice.result.now c.as_slice-2.result.now
-    under.parts.first under.parts.end c.requires.layered c.requires.entries_rise (c.as_slice.ensures.value ∙ own)
+    let first : under.first ≡ 0 = search rules in
+    let end : under.end ≡ length ts = search rules in
+    let with : IsFaceWith f.face (changed (together (held_in ts) (all_of f.heavy.now)) c.as_slice.result.now) ts (overs_of f.parts.now) under.first
+    under.end shown (overs_of under.parts.items) under.heavy = search rules in
+    let then = (over_first f.face ts shown (overs_of f.parts.now) (overs_of under.parts.items) f.heavy.now under.heavy es c.as_slice.result.now c.as_slice-2.result.now
+    under.first under.end c.requires.layered c.requires.entries_rise (c.as_slice.ensures.value ∙ own)
     (c.as_slice-2.ensures.value ∙ light) first end with).1 in
     subst (λ (hs : Collection). length hs ≤ 1000000) (sym then) c.requires.within_limit
 
@@ -93,22 +93,22 @@ returns-clause-with c =
     let ts = spans_of f.parts.now in
     let heavy = all_of f.heavy.now in
     let under = c.in-Some-2.under in
-    let shown = spans_of under.parts.parts.items in
+    let shown = spans_of under.parts.items in
     let own : c.in-Some.own.heavy.items ≡ over_entries ts f.heavy.now es = search rules in
     let light : c.in-Some.own.light.items ≡ other_entries ts f.heavy.now es = search rules in
-    let first : under.parts.first ≡ 0 = search rules in
-    let end : under.parts.end ≡ length ts = search rules in
-    let with : IsFaceWith f.face (changed (together (held_in ts) heavy) c.as_slice.result.now) ts f.overs.now under.parts.first under.parts.end
-    shown under.overs.items under.heavy = search rules in
-    let then = (over_first f.face ts shown f.overs.now under.overs.items f.heavy.now under.heavy es c.as_slice.result.now c.as_slice-2.result.now
-    under.parts.first under.parts.end c.requires.layered c.requires.entries_rise (c.as_slice.ensures.value ∙ own)
+    let first : under.first ≡ 0 = search rules in
+    let end : under.end ≡ length ts = search rules in
+    let with : IsFaceWith f.face (changed (together (held_in ts) heavy) c.as_slice.result.now) ts (overs_of f.parts.now) under.first under.end
+    shown (overs_of under.parts.items) under.heavy = search rules in
+    let then = (over_first f.face ts shown (overs_of f.parts.now) (overs_of under.parts.items) f.heavy.now under.heavy es c.as_slice.result.now c.as_slice-2.result.now
+    under.first under.end c.requires.layered c.requires.entries_rise (c.as_slice.ensures.value ∙ own)
     (c.as_slice-2.ensures.value ∙ light) first end with).1 in
     let new = c.in-Some-3.new in
-    let new_first : new.parts.first ≡ under.parts.first = search rules in
-    let new_end : new.parts.end ≡ under.parts.end = search rules in
-    let layered : IsFaceLayered f.face new.heavy (spans_of new.parts.parts.items) new.overs.items = search rules in
-    let pairs : together (held_in (spans_of new.parts.parts.items)) (all_of new.heavy)
+    let new_first : new.first ≡ under.first = search rules in
+    let new_end : new.end ≡ under.end = search rules in
+    let layered : IsFaceLayered f.face new.heavy (spans_of new.parts.items) (overs_of new.parts.items) = search rules in
+    let pairs : together (held_in (spans_of new.parts.items)) (all_of new.heavy)
     ≡ changed (together (held_in shown) (all_of under.heavy)) c.as_slice-2.result.now = search rules in
-    all_given f.face (length ts) new.parts.first new.parts.end (changed (together (held_in ts) heavy) es) ts (spans_of new.parts.parts.items) f.overs.now
-    new.overs.items new.heavy (new_first ∙ first) (new_end ∙ end) refl (length_overs f.heavy.now ts f.overs.now c.requires.layered.overs_are) layered
+    all_given f.face (length ts) new.first new.end (changed (together (held_in ts) heavy) es) ts (spans_of new.parts.items) (overs_of f.parts.now)
+    (overs_of new.parts.items) new.heavy (new_first ∙ first) (new_end ∙ end) refl (length_overs f.heavy.now ts (overs_of f.parts.now) c.requires.layered.overs_are) layered
     (pairs ∙ then)

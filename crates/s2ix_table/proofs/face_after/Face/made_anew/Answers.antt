@@ -1,7 +1,7 @@
-use Rattle.std.proofs.Common.{sym}
-use Rattle.s2ix_table.specs.FaceSpans.{spans_of}
+use Rattle.std.proofs.Common.{sym, ◌∙◌}
+use Rattle.s2ix_table.specs.FaceSpans.{overs_of, spans_of}
 use Rattle.s2ix_table.proofs.FaceWith.{all_given}
-use Rattle.s2ix_table.proofs.Shared.{many_shared}
+use Rattle.s2ix_table.proofs.Shared.{many_overs, many_shared}
 use Rattle.s2ix_table.proofs.face_after.Face.made_anew.Goals as goal
 
 pub returns-clause-with : goal.returns-clause-with
@@ -9,5 +9,5 @@ returns-clause-with c =
     let f = c.args.self in
     let new = c.in_ok-new.new in
     let are = c.in_ok-new.ensures in
-    all_given f.face _ new.parts.first new.parts.end c.args.held.now (spans_of f.parts.now) (spans_of new.parts.parts.items) f.overs.now new.overs.items new.heavy
-    are.first are.end (sym (many_shared f.parts.now)) c.requires.overs are.layered are.pairs
+    all_given f.face _ new.first new.end c.args.held.now (spans_of f.parts.now) (spans_of new.parts.items) (overs_of f.parts.now) (overs_of new.parts.items) new.heavy
+    are.first are.end (sym (many_shared f.parts.now)) (many_overs f.parts.now ∙ sym (many_shared f.parts.now)) are.layered are.pairs

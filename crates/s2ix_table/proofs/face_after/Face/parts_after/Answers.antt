@@ -5,8 +5,8 @@ use Rattle.s2ix_table.specs.FaceSpans.{face_begin}
 use Rattle.s2ix_table.proofs.InSpans.{face_in_span}
 use Rattle.s2ix_table.proofs.face_after.Face.parts_after.Goals as goal
 
-pub parts_after-requires-clause-span : goal.parts_after-requires-clause-span
-parts_after-requires-clause-span c =
+pub changed_parts-requires-clause-span : goal.changed_parts-requires-clause-span
+changed_parts-requires-clause-span c =
     let face = c.args.self.face in
     let own = face_in_span face c.args.held.now c.requires.on_face in
     let from : face_begin face ≡ c.from.result * 2305843009213693952 + 1 = let e = c.from.ensures in omega (arith, e) in

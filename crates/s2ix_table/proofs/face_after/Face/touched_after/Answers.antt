@@ -1,6 +1,6 @@
 use Rattle.std.proofs.Common.{◌≡◌, ◌-◌, take, drop, sym, ap, ◌∙◌, subst, rules}
 use Rattle.s2ix_bag_pairs.specs.Change.{changed}
-use Rattle.s2ix_table.specs.FaceSpans.{spans_of}
+use Rattle.s2ix_table.specs.FaceSpans.{overs_of, spans_of}
 use Rattle.s2ix_table.specs.Joined.{held_in}
 use Rattle.s2ix_table.specs.Layered.{AreLightParts}
 use Rattle.s2ix_table.proofs.LightChanged.{AreTouchedPairs, light_with_touched, touched_pairs}
@@ -24,7 +24,7 @@ pairs c =
     let f = c.args.self in
     let r = c.args.touched in
     let is = c.requires in
-    touched_pairs f.face (spans_of f.parts.now) f.overs.now f.heavy.now c.args.entries.now r.first r.end r.from r.to c.as_slice.result.now
+    touched_pairs f.face (spans_of f.parts.now) (overs_of f.parts.now) f.heavy.now c.args.entries.now r.first r.end r.from r.to c.as_slice.result.now
     is.six is.layered is.touched is.entries_rise is.light is.within_limit (before_is c)
 
 -- what the change makes of them
@@ -67,7 +67,7 @@ returns-clause-with c =
     let own : c.as_slice-2.result.now
     ≡ changed (held_in (take (r.end - r.first) (drop r.first (spans_of f.parts.now)))) c.args.entries.now =
     sym (after_is h.After-as_slice-2) ∙ ap (λ hs. changed hs c.args.entries.now) (before_is h.After-as_slice) in
-    let are : AreLightParts f.heavy.now c.as_slice-2.result.now r.from (spans_of made.parts.items) made.overs.items r.to = search rules in
-    light_with_touched f.face (spans_of f.parts.now) (spans_of made.parts.items) f.overs.now made.overs.items f.heavy.now made.heavy
+    let are : AreLightParts f.heavy.now c.as_slice-2.result.now r.from (spans_of made.parts.items) (overs_of made.parts.items) r.to = search rules in
+    light_with_touched f.face (spans_of f.parts.now) (spans_of made.parts.items) (overs_of f.parts.now) (overs_of made.parts.items) f.heavy.now made.heavy
     c.args.entries.now r.first r.end r.from r.to is.layered is.touched is.entries_rise is.light same
-    (subst (λ hs. AreLightParts f.heavy.now hs r.from (spans_of made.parts.items) made.overs.items r.to) own are)
+    (subst (λ hs. AreLightParts f.heavy.now hs r.from (spans_of made.parts.items) (overs_of made.parts.items) r.to) own are)

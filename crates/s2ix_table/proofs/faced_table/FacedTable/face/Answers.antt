@@ -1,7 +1,7 @@
 use Rattle.std.proofs.Common.{ℕ, slice_index_or, [], subst, sym, ap, ◌∙◌, arith}
 use Rattle.std.proofs.lemmas.List.{get_or_default}
 use Rattle.s2ix_bag_lists.specs.Faces.{all_of}
-use Rattle.s2ix_table.specs.FaceSpans.{of_face, parts_of_face, spans_of}
+use Rattle.s2ix_table.specs.FaceSpans.{of_face, overs_of, parts_of_face, spans_of}
 use Rattle.s2ix_table.specs.Joined.{held_in}
 use Rattle.s2ix_table.specs.Layered.{IsFaceLayered, chunks_on}
 use Rattle.s2ix_table.specs.Layers.{together}
@@ -17,10 +17,10 @@ returns-clause-layered c =
     let many = t.layered.six in
     let own = face_of_table face t.joined t.layered c.all_are_chunks.ensures six in
     let parts = c.parts_on.ensures.slice ∙ ap (parts_of_face (spans_of t.parts.items) t.faces) at in
-    let overs = c.overs_on.ensures ∙ ap (λ (n : ℕ). of_face t.overs.items t.faces n) at in
+    let overs = c.parts_on.ensures.overs ∙ ap (λ (n : ℕ). of_face (overs_of t.parts.items) t.faces n) at in
     let heavy = get_or_default t.heavy c.from-at.result c.index-self-at.result [] (omega arith) ∙ ap (chunks_on t.heavy) at in
-    subst (λ cs. IsFaceLayered face cs (spans_of c.parts_on.result.now) c.overs_on.result.now) (sym heavy)
-    (subst (λ ts. IsFaceLayered face (chunks_on t.heavy face) ts c.overs_on.result.now) (sym parts)
+    subst (λ cs. IsFaceLayered face cs (spans_of c.parts_on.result.now) (overs_of c.parts_on.result.now)) (sym heavy)
+    (subst (λ ts. IsFaceLayered face (chunks_on t.heavy face) ts (overs_of c.parts_on.result.now)) (sym parts)
     (subst (λ os. IsFaceLayered face (chunks_on t.heavy face) (parts_of_face (spans_of t.parts.items) t.faces face) os) (sym overs) own.layered))
 
 pub returns-clause-pairs : goal.returns-clause-pairs

@@ -4,7 +4,7 @@ use Rattle.s2ix_bag_pairs.specs.Change.{changed}
 use Rattle.s2ix_bag_pairs.specs.Collection.{Collection, IsCollection}
 use Rattle.s2ix_bag_pairs.proofs.Changes.{changed_keeps}
 use Rattle.s2ix_table.specs.Faces.{entries_on, held_on}
-use Rattle.s2ix_table.specs.FaceSpans.{AreOnFace, parts_of_face, spans_of}
+use Rattle.s2ix_table.specs.FaceSpans.{AreOnFace, overs_of, parts_of_face, spans_of}
 use Rattle.s2ix_table.specs.Joined.{held_in}
 use Rattle.s2ix_table.specs.Layered.{IsFaceWith, heavy_in}
 use Rattle.s2ix_table.specs.Layers.{together}
@@ -74,11 +74,11 @@ returns-in-None-clause-with c =
     let pairs = is.pairs ∙ sym (unchanged_stay old change face none) in
     let r = c.unchanged.result in
     let hs = together (held_in (spans_of before.parts.now)) (all_of before.heavy.now) in
-    let one = subst (λ n. IfOk r (λ new. IsFaceWith n hs (spans_of before.parts.now) before.overs.now new.parts.first new.parts.end (spans_of new.parts.parts.items) new.overs.items new.heavy))
+    let one = subst (λ n. IfOk r (λ new. IsFaceWith n hs (spans_of before.parts.now) (overs_of before.parts.now) new.first new.end (spans_of new.parts.items) (overs_of new.parts.items) new.heavy))
     is.face c.unchanged.ensures.with in
-    let two = subst (λ ks. IfOk r (λ new. IsFaceWith face ks (spans_of before.parts.now) before.overs.now new.parts.first new.parts.end (spans_of new.parts.parts.items) new.overs.items new.heavy))
+    let two = subst (λ ks. IfOk r (λ new. IsFaceWith face ks (spans_of before.parts.now) (overs_of before.parts.now) new.first new.end (spans_of new.parts.items) (overs_of new.parts.items) new.heavy))
     pairs one in
-    let three = subst (λ ts. IfOk r (λ new. IsFaceWith face (held_on face (changed old change)) ts before.overs.now new.parts.first new.parts.end (spans_of new.parts.parts.items) new.overs.items new.heavy))
+    let three = subst (λ ts. IfOk r (λ new. IsFaceWith face (held_on face (changed old change)) ts (overs_of before.parts.now) new.first new.end (spans_of new.parts.items) (overs_of new.parts.items) new.heavy))
     is.parts two in
-    subst (λ os. IfOk r (λ new. IsFaceWith face (held_on face (changed old change)) (parts_of_face (spans_of t.parts.items) t.faces face) os new.parts.first new.parts.end (spans_of new.parts.parts.items) new.overs.items new.heavy))
+    subst (λ os. IfOk r (λ new. IsFaceWith face (held_on face (changed old change)) (parts_of_face (spans_of t.parts.items) t.faces face) os new.first new.end (spans_of new.parts.items) (overs_of new.parts.items) new.heavy))
     is.overs three

@@ -2,24 +2,15 @@
 use Rattle.std.proofs.Common.{ℕ, ◌+◌, ◌<◌, ◌++◌, length, take, drop, subst, sym, ap, ◌∙◌, arith}
 use Rattle.std.proofs.lemmas.List.{length-set}
 use Rattle.s2ix_bag_pairs.specs.Change.{changed}
-use Rattle.s2ix_table.specs.FaceSpans.{of_face, parts_of_face, spans_of}
+use Rattle.s2ix_table.specs.FaceSpans.{of_face, overs_of, parts_of_face, spans_of}
 use Rattle.s2ix_table.specs.Joined.{held_in}
 use Rattle.s2ix_table.specs.Layered.{heavy_in}
 use Rattle.s2ix_table.specs.Layers.{together}
 use Rattle.s2ix_table.specs.Parts.{with_parts}
 use Rattle.s2ix_table.proofs.FacePut.{layers_push}
-use Rattle.s2ix_table.proofs.FaceWith.{length_overs}
 use Rattle.s2ix_table.proofs.LayersMade.{AreLayersMade, all_layers}
+use Rattle.s2ix_table.proofs.Put.{pushed_overs, pushed_spans}
 use Rattle.s2ix_table.proofs.faced_table.FacedTable.faces_after.Goals as goal
-
-pub push-requires-clause-overs_within : goal.push-requires-clause-overs_within
-push-requires-clause-overs_within c =
-    let before = c.face-before.result in
-    let is = c.face-before.ensures in
-    let within = c.in_ok-new.ensures.with.within in
-    let many = length_overs before.heavy.now (spans_of before.parts.now) before.overs.now is.layered.overs_are in
-    let same = ap length is.parts in
-    omega (arith, within, many, same)
 
 pub loop-face-preserved : goal.loop-face-preserved
 loop-face-preserved c =
@@ -31,18 +22,19 @@ loop-face-preserved c =
     let now = c.push.new.self in
     let i = c.loop-face.invariant in
     let new = c.in_ok-new.new in
-    let made = spans_of new.parts.parts.items in
+    let made = spans_of new.parts.items in
     let is = c.in_ok-new.ensures in
     let before = c.face-before.ensures in
     let r = c.in_ok-push.ensures in
     let own = parts_of_face (spans_of t.parts.items) t.faces face in
-    let own_overs = of_face t.overs.items t.faces face in
-    let parts = r.parts ∙ ap (λ ts. spans_of all.parts.items ++ with_parts ts new.parts.first new.parts.end made) before.parts in
-    let overs = r.overs ∙ ap (λ os. all.overs.items ++ (take new.parts.first os ++ (new.overs.items ++ drop new.parts.end os))) before.overs in
-    let next = layers_push hs all.heavy now.heavy (spans_of all.parts.items) own made all.overs.items own_overs new.overs.items face new.face
-    new.parts.first new.parts.end new.heavy i.0 lt i.1 is.face r.heavy is.with in (
-      subst (λ ts. AreLayersMade hs now.heavy ts now.overs.items (face + 1)) (sym parts)
-          (subst (λ os. AreLayersMade hs now.heavy (spans_of all.parts.items ++ with_parts own new.parts.first new.parts.end made) os (face + 1)) (sym overs) next),
+    let own_overs = of_face (overs_of t.parts.items) t.faces face in
+    let parts = pushed_spans all.parts.items now.parts.items new.parts.items c.face-before.result.parts.now new.first new.end r.parts ∙ ap (λ ts. spans_of all.parts.items ++ with_parts ts new.first new.end made) before.parts in
+    let overs = pushed_overs all.parts.items now.parts.items new.parts.items c.face-before.result.parts.now new.first new.end r.parts
+    ∙ ap (λ os. overs_of all.parts.items ++ (take new.first os ++ (overs_of new.parts.items ++ drop new.end os))) before.overs in
+    let next = layers_push hs all.heavy now.heavy (spans_of all.parts.items) own made (overs_of all.parts.items) own_overs (overs_of new.parts.items) face new.face
+    new.first new.end new.heavy i.0 lt i.1 is.face r.heavy is.with in (
+      subst (λ ts. AreLayersMade hs now.heavy ts (overs_of now.parts.items) (face + 1)) (sym parts)
+          (subst (λ os. AreLayersMade hs now.heavy (spans_of all.parts.items ++ with_parts own new.first new.end made) os (face + 1)) (sym overs) next),
       ap length r.heavy ∙ length-set all.heavy new.face new.heavy ∙ i.1,
     )
 
@@ -52,7 +44,7 @@ returns-clause-layout c =
     let hs = changed (together (held_in (spans_of t.parts.items)) (heavy_in t.heavy)) c.args.change.now in
     let all = c.loop-face.all in
     let i = c.loop-face.invariant in
-    (all_layers hs all.heavy (spans_of all.parts.items) all.overs.items c.loop-face.face i.0 (omega arith) i.1 c.requires.rises c.requires.within_limit).layout
+    (all_layers hs all.heavy (spans_of all.parts.items) (overs_of all.parts.items) c.loop-face.face i.0 (omega arith) i.1 c.requires.rises c.requires.within_limit).layout
 
 pub returns-clause-pairs : goal.returns-clause-pairs
 returns-clause-pairs c =
@@ -60,4 +52,4 @@ returns-clause-pairs c =
     let hs = changed (together (held_in (spans_of t.parts.items)) (heavy_in t.heavy)) c.args.change.now in
     let all = c.loop-face.all in
     let i = c.loop-face.invariant in
-    (all_layers hs all.heavy (spans_of all.parts.items) all.overs.items c.loop-face.face i.0 (omega arith) i.1 c.requires.rises c.requires.within_limit).pairs
+    (all_layers hs all.heavy (spans_of all.parts.items) (overs_of all.parts.items) c.loop-face.face i.0 (omega arith) i.1 c.requires.rises c.requires.within_limit).pairs

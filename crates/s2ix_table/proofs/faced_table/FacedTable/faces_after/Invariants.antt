@@ -1,7 +1,7 @@
 -- The faces before this one are made.
 use Rattle.std.proofs.Common.{◌≡◌, length}
 use Rattle.s2ix_bag_pairs.specs.Change.{changed}
-use Rattle.s2ix_table.specs.FaceSpans.{spans_of}
+use Rattle.s2ix_table.specs.FaceSpans.{overs_of, spans_of}
 use Rattle.s2ix_table.specs.Joined.{held_in}
 use Rattle.s2ix_table.specs.Layered.{heavy_in}
 use Rattle.s2ix_table.specs.Layers.{together}
@@ -11,5 +11,5 @@ use Rattle.s2ix_table.proofs.faced_table.FacedTable.faces_after.Given as goal
 abbrev pub invariant-loop-face : goal.invariant-loop-face
 invariant-loop-face l =
     AreLayersMade (changed (together (held_in (spans_of l.self.parts.items)) (heavy_in l.self.heavy)) l.change) l.all.heavy (spans_of l.all.parts.items)
-    l.all.overs.items l.face
+    (overs_of l.all.parts.items) l.face
     × (length l.all.heavy ≡ 6)

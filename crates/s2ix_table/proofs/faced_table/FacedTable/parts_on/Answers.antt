@@ -1,9 +1,9 @@
 use Rattle.std.proofs.Common.{ℕ, ◌+◌, ◌-◌, List, take, drop, sym, ◌∙◌, ap, subst, rules}
 use Rattle.s2ix_table_spans.specs.SpanTable.{SpanRanges}
-use Rattle.s2ix_table.specs.FaceSpans.{face_begin, spans_of}
+use Rattle.s2ix_table.specs.FaceSpans.{face_begin, overs_of, spans_of}
 use Rattle.s2ix_table.specs.Joined.{held_in, AreNeighbours}
 use Rattle.s2ix_table.proofs.FirstParts.{face_parts, first_of_face}
-use Rattle.s2ix_table.proofs.Shared.{spans_between}
+use Rattle.s2ix_table.proofs.Shared.{overs_between, spans_between}
 use Rattle.s2ix_table.proofs.faced_table.FacedTable.parts_on.Goals as goal
 
 pub slice_bounds-result-count : goal.slice_bounds-result-count
@@ -37,3 +37,10 @@ returns-clause-slice c =
     let first = first_of_face t.faces c.args.face in
     let n : ℕ = first_of_face t.faces (c.args.face + 1) - first in
     ap (λ ts. spans_of (take n (drop first ts))) c.deref.ensures.value ∙ spans_between first n t.parts.items
+
+pub returns-clause-overs : goal.returns-clause-overs
+returns-clause-overs c =
+    let t = c.args.self.now in
+    let first = first_of_face t.faces c.args.face in
+    let n : ℕ = first_of_face t.faces (c.args.face + 1) - first in
+    ap (λ ts. overs_of (take n (drop first ts))) c.deref.ensures.value ∙ overs_between first n t.parts.items

@@ -7,18 +7,16 @@ use Rattle.s2ix_table_spans.specs.SpanTable.{SpanRanges}
 use Rattle.s2ix_table_heavy.specs.declared.heavy_place.HeavyPlace.{HeavyPlace}
 use Rattle.s2ix_table.specs.declared.blocks.Blocks.{Blocks}
 use Rattle.s2ix_table.specs.Blocks.{AreBlocks}
-use Rattle.s2ix_table.specs.FaceSpans.{face_begin, spans_of, starts_of, AreFirstParts}
+use Rattle.s2ix_table.specs.FaceSpans.{AreFirstParts, face_begin, overs_of, spans_of, starts_of}
 use Rattle.s2ix_table.specs.Joined.{joined_ranges}
 use Rattle.s2ix_table.specs.Layered.{IsLayout, covered, heavy_in}
 use Rattle.s2ix_table.specs.Offsets.{offsets_of, AreOffsetsFrom}
 use Rattle.s2ix_table.specs.Parts.{with_parts}
 use Rattle.s2ix_table.proofs.Cuts.{starts_rise}
-use Rattle.s2ix_table.proofs.HeavyFaces.{many_led}
 use Rattle.s2ix_table.proofs.Laid.{laid_joined, many_covered}
 use Rattle.s2ix_table.proofs.Offsets.{length_offsets}
-use Rattle.s2ix_table.proofs.Put.{put_covered, put_offsets, put_spans, put_starts}
+use Rattle.s2ix_table.proofs.Put.{put_covered, put_offsets, put_overs, put_spans, put_starts}
 use Rattle.s2ix_table.proofs.Reading.{first_offset, many_offsets}
-use Rattle.s2ix_table.proofs.Replaced.{replaced_in}
 use Rattle.s2ix_table.proofs.Shared.{many_shared}
 use Rattle.s2ix_table.proofs.Sound.{laid_sound, some_number}
 use Rattle.s2ix_table.proofs.Together.{first_start}
@@ -27,21 +25,12 @@ use Rattle.s2ix_table.proofs.faced_table.FacedTable.put.Goals as goal
 pub returns-clause-put : goal.returns-clause-put
 returns-clause-put c =
     let t = c.args.self.now in
-    let new = c.args.new.parts in
+    let new = c.args.new in
     put_spans t.parts.items c.make_room.new.self.parts.items c.put_between.new.list.items new.parts.items new.first new.end
     c.in_ok-make_room.ensures.parts c.put_between.ensures
 
-pub put_between-requires-2-clause-within : goal.put_between-requires-2-clause-within
-put_between-requires-2-clause-within c =
-    let t = c.args.self.now in
-    let many = many_led t.heavy (spans_of t.parts.items) t.overs.items t.layered.led in
-    let shared = many_shared t.parts.items in
-    let same = ap length c.in_ok-make_room.ensures.overs in
-    let within = c.requires.within in
-    omega arith
-
-pub put_between-requires-4-clause-within : goal.put_between-requires-4-clause-within
-put_between-requires-4-clause-within c =
+pub put_between-requires-3-clause-within : goal.put_between-requires-3-clause-within
+put_between-requires-3-clause-within c =
     let t = c.args.self.now in
     let many = many_offsets t.joined in
     let shared = many_shared t.parts.items in
@@ -52,24 +41,24 @@ put_between-requires-4-clause-within c =
 pub count_from-self-requires-clause-layout : goal.count_from-self-requires-clause-layout
 count_from-self-requires-clause-layout c =
     let t = c.args.self.now in
-    let new = c.args.new.parts in
+    let new = c.args.new in
     let spans = spans_of t.parts.items in
     let is = put_spans t.parts.items c.make_room.new.self.parts.items c.put_between.new.list.items new.parts.items new.first new.end
     c.in_ok-make_room.ensures.parts c.put_between.ensures in
     let heavy_is = c.set_face.ensures ∙ ap (λ hs. set hs c.args.new.face c.args.new.heavy) c.in_ok-make_room.ensures.heavy in
     let seen = ap spans_of c.deref-2.ensures.value ∙ is in
-    let overs_is = replaced_in t.overs.items c.make_room.new.self.overs.items c.put_between-2.new.list.items c.args.new.overs.items new.first new.end
-    c.in_ok-make_room.ensures.overs c.put_between-2.ensures in
-    let own = c.deref-3.ensures.value ∙ overs_is in
+    let overs_are = put_overs t.parts.items c.make_room.new.self.parts.items c.put_between.new.list.items new.parts.items new.first new.end
+    c.in_ok-make_room.ensures.parts c.put_between.ensures in
+    let own = ap overs_of c.deref-2.ensures.value ∙ overs_are in
     let all = with_parts spans new.first new.end (spans_of new.parts.items) in
-    subst (λ (ts : List SpanRanges). IsLayout ts c.set_face.new.heavy c.deref-3.result.now) (sym seen)
-    (subst (λ (hs : List (List Collection)). IsLayout all hs c.deref-3.result.now) (sym heavy_is)
+    subst (λ (ts : List SpanRanges). IsLayout ts c.set_face.new.heavy (overs_of c.deref-2.result.now)) (sym seen)
+    (subst (λ (hs : List (List Collection)). IsLayout all hs (overs_of c.deref-2.result.now)) (sym heavy_is)
     (subst (λ (os : List (Option HeavyPlace)). IsLayout all (set t.heavy c.args.new.face c.args.new.heavy) os) (sym own) c.requires.layout))
 
 pub count_from-self-requires-clause-many : goal.count_from-self-requires-clause-many
 count_from-self-requires-clause-many c =
     let t = c.args.self.now in
-    let new = c.args.new.parts in
+    let new = c.args.new in
     let spans = spans_of t.parts.items in
     let is = put_spans t.parts.items c.make_room.new.self.parts.items c.put_between.new.list.items new.parts.items new.first new.end
     c.in_ok-make_room.ensures.parts c.put_between.ensures in
@@ -84,8 +73,8 @@ count_from-self-requires-clause-many c =
     let len = new.parts.ok.0 in
     let count = c.len-count.ensures in
     let put = put_offsets (covered before spans) (covered after (spans_of new.parts.items)) c.make_room.new.self.offsets.items
-    c.put_between-4.new.list.items c.in_ok-offsets.offsets.items new.first new.end c.len-count.result c.requires.order (omega arith) (omega arith)
-    c.in_ok-offsets.ensures (c.in_ok-make_room.ensures.offsets ∙ t.joined.offsets_are) c.put_between-4.ensures in
+    c.put_between-3.new.list.items c.in_ok-offsets.offsets.items new.first new.end c.len-count.result c.requires.order (omega arith) (omega arith)
+    c.in_ok-offsets.ensures (c.in_ok-make_room.ensures.offsets ∙ t.joined.offsets_are) c.put_between-3.ensures in
     let all = put_covered before after spans (spans_of new.parts.items) new.first new.end c.requires.front c.requires.back in
     let shown = ap₂ (λ (hs : List (List Collection)) (ts : List SpanRanges). covered (heavy_in hs) ts) heavy_is seen ∙ all in
     let parts = ap length seen in
@@ -93,12 +82,12 @@ count_from-self-requires-clause-many c =
     let put_many = put.many in
     let all_many = ap length all in
     let own = many_shared c.deref-2.result.now in
-    ap length c.deref_mut.ensures.value ∙ (let e : length c.put_between-4.new.list.items ≡ length c.deref-2.result.now = omega arith in e)
+    ap length c.deref_mut.ensures.value ∙ (let e : length c.put_between-3.new.list.items ≡ length c.deref-2.result.now = omega arith in e)
 
 pub count_from-self-requires-clause-before : goal.count_from-self-requires-clause-before
 count_from-self-requires-clause-before c =
     let t = c.args.self.now in
-    let new = c.args.new.parts in
+    let new = c.args.new in
     let spans = spans_of t.parts.items in
     let is = put_spans t.parts.items c.make_room.new.self.parts.items c.put_between.new.list.items new.parts.items new.first new.end
     c.in_ok-make_room.ensures.parts c.put_between.ensures in
@@ -113,8 +102,8 @@ count_from-self-requires-clause-before c =
     let len = new.parts.ok.0 in
     let count = c.len-count.ensures in
     let put = put_offsets (covered before spans) (covered after (spans_of new.parts.items)) c.make_room.new.self.offsets.items
-    c.put_between-4.new.list.items c.in_ok-offsets.offsets.items new.first new.end c.len-count.result c.requires.order (omega arith) (omega arith)
-    c.in_ok-offsets.ensures (c.in_ok-make_room.ensures.offsets ∙ t.joined.offsets_are) c.put_between-4.ensures in
+    c.put_between-3.new.list.items c.in_ok-offsets.offsets.items new.first new.end c.len-count.result c.requires.order (omega arith) (omega arith)
+    c.in_ok-offsets.ensures (c.in_ok-make_room.ensures.offsets ∙ t.joined.offsets_are) c.put_between-3.ensures in
     let all = put_covered before after spans (spans_of new.parts.items) new.first new.end c.requires.front c.requires.back in
     let shown = ap₂ (λ (hs : List (List Collection)) (ts : List SpanRanges). covered (heavy_in hs) ts) heavy_is seen ∙ all in
     ap (take new.first) c.deref_mut.ensures.value ∙ put.before ∙ ap (λ ts. take new.first (offsets_of ts)) (sym shown)
@@ -122,7 +111,7 @@ count_from-self-requires-clause-before c =
 pub count_from-self-requires-clause-behind : goal.count_from-self-requires-clause-behind
 count_from-self-requires-clause-behind c =
     let t = c.args.self.now in
-    let new = c.args.new.parts in
+    let new = c.args.new in
     let spans = spans_of t.parts.items in
     let is = put_spans t.parts.items c.make_room.new.self.parts.items c.put_between.new.list.items new.parts.items new.first new.end
     c.in_ok-make_room.ensures.parts c.put_between.ensures in
@@ -137,76 +126,76 @@ count_from-self-requires-clause-behind c =
     let len = new.parts.ok.0 in
     let count = c.len-count.ensures in
     let put = put_offsets (covered before spans) (covered after (spans_of new.parts.items)) c.make_room.new.self.offsets.items
-    c.put_between-4.new.list.items c.in_ok-offsets.offsets.items new.first new.end c.len-count.result c.requires.order (omega arith) (omega arith)
-    c.in_ok-offsets.ensures (c.in_ok-make_room.ensures.offsets ∙ t.joined.offsets_are) c.put_between-4.ensures in
+    c.put_between-3.new.list.items c.in_ok-offsets.offsets.items new.first new.end c.len-count.result c.requires.order (omega arith) (omega arith)
+    c.in_ok-offsets.ensures (c.in_ok-make_room.ensures.offsets ∙ t.joined.offsets_are) c.put_between-3.ensures in
     let all = put_covered before after spans (spans_of new.parts.items) new.first new.end c.requires.front c.requires.back in
     let shown = ap₂ (λ (hs : List (List Collection)) (ts : List SpanRanges). covered (heavy_in hs) ts) heavy_is seen ∙ all in
     let end : ℕ = new.first + c.len-count.result in
     let there = covered (heavy_in c.set_face.new.heavy) (spans_of c.deref-2.result.now) in
-    subst (λ os. AreOffsetsFrom end os there) (sym c.deref_mut.ensures.value) (subst (AreOffsetsFrom end c.put_between-4.new.list.items) (sym shown) put.behind)
+    subst (λ os. AreOffsetsFrom end os there) (sym c.deref_mut.ensures.value) (subst (AreOffsetsFrom end c.put_between-3.new.list.items) (sym shown) put.behind)
 
 pub first_parts-self-requires-clause-rises : goal.first_parts-self-requires-clause-rises
 first_parts-self-requires-clause-rises c =
     let t = c.args.self.now in
-    let new = c.args.new.parts in
-    let starts = put_starts (spans_of t.parts.items) (spans_of new.parts.items) c.make_room.new.self.starts.items c.put_between-3.new.list.items
+    let new = c.args.new in
+    let starts = put_starts (spans_of t.parts.items) (spans_of new.parts.items) c.make_room.new.self.starts.items c.put_between-2.new.list.items
     c.in_ok-starts.starts.items new.first new.end (c.in_ok-make_room.ensures.starts ∙ t.joined.starts_are)
-    (c.in_ok-starts.ensures ∙ ap (λ ts. starts_of (spans_of ts)) c.deref.ensures.value) c.put_between-3.ensures in
-    subst (λ (ns : List ℕ). AllPairs (λ a b. a < b) ns) (sym (c.deref-4.ensures.value ∙ starts))
+    (c.in_ok-starts.ensures ∙ ap (λ ts. starts_of (spans_of ts)) c.deref.ensures.value) c.put_between-2.ensures in
+    subst (λ (ns : List ℕ). AllPairs (λ a b. a < b) ns) (sym (c.deref-3.ensures.value ∙ starts))
     (starts_rise 1 _ leaf_end c.requires.layout.neighbours)
 
 pub first_parts-self-requires-clause-begins : goal.first_parts-self-requires-clause-begins
 first_parts-self-requires-clause-begins c =
     let t = c.args.self.now in
-    let new = c.args.new.parts in
-    let starts = put_starts (spans_of t.parts.items) (spans_of new.parts.items) c.make_room.new.self.starts.items c.put_between-3.new.list.items
+    let new = c.args.new in
+    let starts = put_starts (spans_of t.parts.items) (spans_of new.parts.items) c.make_room.new.self.starts.items c.put_between-2.new.list.items
     c.in_ok-starts.starts.items new.first new.end (c.in_ok-make_room.ensures.starts ∙ t.joined.starts_are)
-    (c.in_ok-starts.ensures ∙ ap (λ ts. starts_of (spans_of ts)) c.deref.ensures.value) c.put_between-3.ensures in
-    λ face lt. subst (λ (ns : List ℕ). Contains ns (face_begin face)) (sym (c.deref-4.ensures.value ∙ starts)) (c.requires.faces face lt)
+    (c.in_ok-starts.ensures ∙ ap (λ ts. starts_of (spans_of ts)) c.deref.ensures.value) c.put_between-2.ensures in
+    λ face lt. subst (λ (ns : List ℕ). Contains ns (face_begin face)) (sym (c.deref-3.ensures.value ∙ starts)) (c.requires.faces face lt)
 
 pub first_parts-self-requires-clause-first : goal.first_parts-self-requires-clause-first
 first_parts-self-requires-clause-first c =
     let t = c.args.self.now in
-    let new = c.args.new.parts in
-    let starts = put_starts (spans_of t.parts.items) (spans_of new.parts.items) c.make_room.new.self.starts.items c.put_between-3.new.list.items
+    let new = c.args.new in
+    let starts = put_starts (spans_of t.parts.items) (spans_of new.parts.items) c.make_room.new.self.starts.items c.put_between-2.new.list.items
     c.in_ok-starts.starts.items new.first new.end (c.in_ok-make_room.ensures.starts ∙ t.joined.starts_are)
-    (c.in_ok-starts.ensures ∙ ap (λ ts. starts_of (spans_of ts)) c.deref.ensures.value) c.put_between-3.ensures in
-    ap (λ (ns : List ℕ). slice_index_or ns 0 0) (c.deref-4.ensures.value ∙ starts) ∙ first_start _ c.requires.layout.neighbours
+    (c.in_ok-starts.ensures ∙ ap (λ ts. starts_of (spans_of ts)) c.deref.ensures.value) c.put_between-2.ensures in
+    ap (λ (ns : List ℕ). slice_index_or ns 0 0) (c.deref-3.ensures.value ∙ starts) ∙ first_start _ c.requires.layout.neighbours
 
-pub give_way-requires-clause-stay : goal.give_way-requires-clause-stay
-give_way-requires-clause-stay c =
+pub replace-requires-clause-stay : goal.replace-requires-clause-stay
+replace-requires-clause-stay c =
     let t = c.args.self.now in
-    let new = c.args.new.parts in
-    let starts = put_starts (spans_of t.parts.items) (spans_of new.parts.items) c.make_room.new.self.starts.items c.put_between-3.new.list.items
+    let new = c.args.new in
+    let starts = put_starts (spans_of t.parts.items) (spans_of new.parts.items) c.make_room.new.self.starts.items c.put_between-2.new.list.items
     c.in_ok-starts.starts.items new.first new.end (c.in_ok-make_room.ensures.starts ∙ t.joined.starts_are)
-    (c.in_ok-starts.ensures ∙ ap (λ ts. starts_of (spans_of ts)) c.deref.ensures.value) c.put_between-3.ensures in
+    (c.in_ok-starts.ensures ∙ ap (λ ts. starts_of (spans_of ts)) c.deref.ensures.value) c.put_between-2.ensures in
     let same = c.in_ok-make_room.ensures.stay in
-    λ none. subst (λ (bs : Blocks). AreBlocks c.deref-5.result.now bs) (sym same)
-    (subst (λ (ns : List ℕ). AreBlocks ns t.blocks) (sym (c.deref-5.ensures.value ∙ starts ∙ c.in_ok-blocks.ensures none)) t.blocked)
+    λ none. subst (λ (bs : Blocks). AreBlocks c.deref-4.result.now bs) (sym same)
+    (subst (λ (ns : List ℕ). AreBlocks ns t.blocks) (sym (c.deref-4.ensures.value ∙ starts ∙ c.in_ok-blocks.ensures none)) t.blocked)
 
-pub give_way-requires-clause-some : goal.give_way-requires-clause-some
-give_way-requires-clause-some c =
+pub replace-requires-clause-some : goal.replace-requires-clause-some
+replace-requires-clause-some c =
     let t = c.args.self.now in
-    let new = c.args.new.parts in
-    let starts = put_starts (spans_of t.parts.items) (spans_of new.parts.items) c.make_room.new.self.starts.items c.put_between-3.new.list.items
+    let new = c.args.new in
+    let starts = put_starts (spans_of t.parts.items) (spans_of new.parts.items) c.make_room.new.self.starts.items c.put_between-2.new.list.items
     c.in_ok-starts.starts.items new.first new.end (c.in_ok-make_room.ensures.starts ∙ t.joined.starts_are)
-    (c.in_ok-starts.ensures ∙ ap (λ ts. starts_of (spans_of ts)) c.deref.ensures.value) c.put_between-3.ensures in
-    let first = ap (λ (ns : List ℕ). slice_index_or ns 0 0) (c.deref-5.ensures.value ∙ starts) ∙ first_start _ c.requires.layout.neighbours in
-    some_number c.deref-5.result.now first
+    (c.in_ok-starts.ensures ∙ ap (λ ts. starts_of (spans_of ts)) c.deref.ensures.value) c.put_between-2.ensures in
+    let first = ap (λ (ns : List ℕ). slice_index_or ns 0 0) (c.deref-4.ensures.value ∙ starts) ∙ first_start _ c.requires.layout.neighbours in
+    some_number c.deref-4.result.now first
 
-pub give_way-requires-clause-first : goal.give_way-requires-clause-first
-give_way-requires-clause-first c =
+pub replace-requires-clause-first : goal.replace-requires-clause-first
+replace-requires-clause-first c =
     let t = c.args.self.now in
-    let new = c.args.new.parts in
-    let starts = put_starts (spans_of t.parts.items) (spans_of new.parts.items) c.make_room.new.self.starts.items c.put_between-3.new.list.items
+    let new = c.args.new in
+    let starts = put_starts (spans_of t.parts.items) (spans_of new.parts.items) c.make_room.new.self.starts.items c.put_between-2.new.list.items
     c.in_ok-starts.starts.items new.first new.end (c.in_ok-make_room.ensures.starts ∙ t.joined.starts_are)
-    (c.in_ok-starts.ensures ∙ ap (λ ts. starts_of (spans_of ts)) c.deref.ensures.value) c.put_between-3.ensures in
-    ap (λ (ns : List ℕ). slice_index_or ns 0 0) (c.deref-5.ensures.value ∙ starts) ∙ first_start _ c.requires.layout.neighbours
+    (c.in_ok-starts.ensures ∙ ap (λ ts. starts_of (spans_of ts)) c.deref.ensures.value) c.put_between-2.ensures in
+    ap (λ (ns : List ℕ). slice_index_or ns 0 0) (c.deref-4.ensures.value ∙ starts) ∙ first_start _ c.requires.layout.neighbours
 
 pub invariant_of-self : goal.invariant_of-self
 invariant_of-self c =
     let t = c.args.self.now in
-    let new = c.args.new.parts in
+    let new = c.args.new in
     let spans = spans_of t.parts.items in
     let is = put_spans t.parts.items c.make_room.new.self.parts.items c.put_between.new.list.items new.parts.items new.first new.end
     c.in_ok-make_room.ensures.parts c.put_between.ensures in
@@ -221,26 +210,26 @@ invariant_of-self c =
     let len = new.parts.ok.0 in
     let count = c.len-count.ensures in
     let put = put_offsets (covered before spans) (covered after (spans_of new.parts.items)) c.make_room.new.self.offsets.items
-    c.put_between-4.new.list.items c.in_ok-offsets.offsets.items new.first new.end c.len-count.result c.requires.order (omega arith) (omega arith)
-    c.in_ok-offsets.ensures (c.in_ok-make_room.ensures.offsets ∙ t.joined.offsets_are) c.put_between-4.ensures in
+    c.put_between-3.new.list.items c.in_ok-offsets.offsets.items new.first new.end c.len-count.result c.requires.order (omega arith) (omega arith)
+    c.in_ok-offsets.ensures (c.in_ok-make_room.ensures.offsets ∙ t.joined.offsets_are) c.put_between-3.ensures in
     let all = put_covered before after spans (spans_of new.parts.items) new.first new.end c.requires.front c.requires.back in
     let shown = ap₂ (λ (hs : List (List Collection)) (ts : List SpanRanges). covered (heavy_in hs) ts) heavy_is seen ∙ all in
-    let overs_is = replaced_in t.overs.items c.make_room.new.self.overs.items c.put_between-2.new.list.items c.args.new.overs.items new.first new.end
-    c.in_ok-make_room.ensures.overs c.put_between-2.ensures in
-    let starts = put_starts (spans_of t.parts.items) (spans_of new.parts.items) c.make_room.new.self.starts.items c.put_between-3.new.list.items
+    let overs_are = put_overs t.parts.items c.make_room.new.self.parts.items c.put_between.new.list.items new.parts.items new.first new.end
+    c.in_ok-make_room.ensures.parts c.put_between.ensures in
+    let starts = put_starts (spans_of t.parts.items) (spans_of new.parts.items) c.make_room.new.self.starts.items c.put_between-2.new.list.items
     c.in_ok-starts.starts.items new.first new.end (c.in_ok-make_room.ensures.starts ∙ t.joined.starts_are)
-    (c.in_ok-starts.ensures ∙ ap (λ ts. starts_of (spans_of ts)) c.deref.ensures.value) c.put_between-3.ensures in
+    (c.in_ok-starts.ensures ∙ ap (λ ts. starts_of (spans_of ts)) c.deref.ensures.value) c.put_between-2.ensures in
     let parts = with_parts spans new.first new.end (spans_of new.parts.items) in
-    let layout = subst (λ (ts : List SpanRanges). IsLayout ts c.set_face.new.heavy c.put_between-2.new.list.items) (sym is)
-    (subst (λ (hs : List (List Collection)). IsLayout parts hs c.put_between-2.new.list.items) (sym heavy_is)
-    (subst (λ (os : List (Option HeavyPlace)). IsLayout parts (set t.heavy c.args.new.face c.args.new.heavy) os) (sym overs_is) c.requires.layout)) in
+    let layout = subst (λ (ts : List SpanRanges). IsLayout ts c.set_face.new.heavy (overs_of c.put_between.new.list.items)) (sym is)
+    (subst (λ (hs : List (List Collection)). IsLayout parts hs (overs_of c.put_between.new.list.items)) (sym heavy_is)
+    (subst (λ (os : List (Option HeavyPlace)). IsLayout parts (set t.heavy c.args.new.face c.args.new.heavy) os) (sym overs_are) c.requires.layout)) in
     let here = ap (λ ts. covered (heavy_in c.set_face.new.heavy) (spans_of ts)) c.deref-2.ensures.value in
-    let own = c.put_between-4.new.list.ok.0 in
+    let own = c.put_between-3.new.list.ok.0 in
     let length_is = ap length c.count_from-self.ensures.offsets
     ∙ length_offsets first_offset (covered (heavy_in c.set_face.new.heavy) (spans_of c.deref-2.result.now)) ∙ ap length shown ∙ sym put.many in
-    let written = take_at c.count_from-self.new.offsets _ c.put_between-4.new.list.len (omega arith) in
+    let written = take_at c.count_from-self.new.offsets _ c.put_between-3.new.list.len (omega arith) in
     let whole = laid_joined _ _ _ _ layout (starts ∙ ap starts_of (sym is)) (written ∙ c.count_from-self.ensures.offsets ∙ ap offsets_of here)
-    (subst (λ (ns : List ℕ). AreFirstParts ns c.first_parts-self.result) c.deref-4.ensures.value c.first_parts-self.ensures)
+    (subst (λ (ns : List ℕ). AreFirstParts ns c.first_parts-self.result) c.deref-3.ensures.value c.first_parts-self.ensures)
     (c.count_from-self.ensures.count ∙ ap (λ ts. length (joined_ranges ts)) here) in
-    let sound = laid_sound {blocks = c.give_way.new.self} layout whole (subst (λ (ns : List ℕ). AreBlocks ns c.give_way.new.self) c.deref-5.ensures.value c.give_way.ensures) in
+    let sound = laid_sound {blocks = c.replace.new.self} layout whole (subst (λ (ns : List ℕ). AreBlocks ns c.replace.new.self) c.deref-4.ensures.value c.replace.ensures) in
     record { joined = whole; blocked = sound.blocked; layered = sound.layered; rises = sound.rises; table = sound.table; bordered = sound.bordered; once = sound.once }

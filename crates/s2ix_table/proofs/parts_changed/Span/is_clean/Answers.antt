@@ -1,8 +1,7 @@
 use Rattle.std.proofs.Common.{◌<◌, length, arith}
-use Rattle.std.proofs.lemmas.List.{length-map}
-use Rattle.std.specs.Arc.{arc_value}
 use Rattle.s2ix_table.specs.FaceSpans.{spans_of, no_table}
 use Rattle.s2ix_table.proofs.Cutting.{begins_count, begin_at, clean_cut}
+use Rattle.s2ix_table.proofs.Shared.{many_shared}
 use Rattle.s2ix_table.proofs.parts_changed.Span.is_clean.Goals as goal
 
 pub bounds-begins-cut : goal.bounds-begins-cut
@@ -16,7 +15,7 @@ returns-then-are_below c test =
     let own = c.args.self in
     let cut = c.args.cut in
     let r = c.requires in
-    let count = length-map own.tables.now arc_value in
+    let count = many_shared own.tables.now in
     let some = r.tables in
     let within : cut.tables < length (spans_of own.tables.now) = omega arith in
     let reach = c.if-cut.false in

@@ -1,16 +1,16 @@
 use Rattle.std.proofs.Common.{ℕ, List, ◌++◌, length, take, drop, sym, ap, ◌∙◌, subst, subst₂, arith, append_assoc}
-use Rattle.std.proofs.lemmas.List.{length-map, length-drop}
-use Rattle.std.specs.Arc.{arc_value}
+use Rattle.std.proofs.lemmas.List.{length-drop}
 use Rattle.s2ix_bag_lists.specs.Faces.{all_of}
 use Rattle.s2ix_bag_pairs.specs.Collection.{Collection}
 use Rattle.s2ix_bag_pairs.specs.declared.pair.Entry.{Entry}
 use Rattle.s2ix_table_spans.specs.SpanTable.{SpanRanges}
-use Rattle.s2ix_table.specs.FaceSpans.{spans_of}
+use Rattle.s2ix_table.specs.FaceSpans.{spans_of, tables_of}
 use Rattle.s2ix_table.specs.Joined.{AreNeighbours, held_in}
 use Rattle.s2ix_table.specs.Parts.{AreBegins}
 use Rattle.s2ix_table.proofs.Parting.{split_lists}
 use Rattle.s2ix_table.proofs.Cutting.{begins_count, begins_later, changed_same, spans_taken, spans_dropped, neighbours_append, held_append}
 use Rattle.s2ix_table.proofs.OneFace.{drop_on}
+use Rattle.s2ix_table.proofs.Shared.{many_shared}
 use Rattle.s2ix_table.proofs.parts_changed.Span.made_anew.Goals as goal
 
 pub push_changed-requires-clause-changed : goal.push_changed-requires-clause-changed
@@ -40,12 +40,12 @@ loop-rest-preserved c =
     let own_is = c.before-in-loop-rest.ensures in
     let later = c.after-rest.result in
     let is = c.after-rest.ensures in
-    let old = spans_of c.loop-rest.parts.items in
-    let new = spans_of c.push_changed.new.parts.items in
+    let old = tables_of c.loop-rest.parts.items in
+    let new = tables_of c.push_changed.new.parts.items in
     let pushed = c.in_ok-push_changed.ensures in
     let from = c.args.self.from in
     let fit = is_cut.tables_fit in
-    let many = length-map rest.tables.now arc_value in
+    let many = many_shared rest.tables.now in
     let tables = was.6 in
     let left = ap length tables in
     let behind = length-drop c.loop-rest.count c.args.self.tables.now in
@@ -73,7 +73,7 @@ returns-clause-neighbours c =
     let spans = spans_of own.tables.now in
     let rest = c.loop-rest.rest in
     let was = c.loop-rest.invariant in
-    let made = spans_of c.loop-rest.parts.items in
+    let made = tables_of c.loop-rest.parts.items in
     let count = c.loop-rest.count in
     let same = ap spans_of was.6 ∙ spans_dropped count own.tables.now in
     let back : AreNeighbours rest.from (drop count spans) own.to =
@@ -85,7 +85,7 @@ returns-clause-pairs c =
     let own = c.args.self in
     let spans = spans_of own.tables.now in
     let was = c.loop-rest.invariant in
-    let made = spans_of c.loop-rest.parts.items in
+    let made = tables_of c.loop-rest.parts.items in
     let count = c.loop-rest.count in
     let same = ap spans_of was.6 ∙ spans_dropped count own.tables.now in
     let last = ap held_in (sym same) ∙ c.is_done.ensures.pairs c.loop-rest-test.false in

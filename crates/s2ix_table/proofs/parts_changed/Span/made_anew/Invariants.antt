@@ -1,6 +1,6 @@
 use Rattle.std.proofs.Common.{◌≡◌, ◌++◌, ◌≤◌, length, drop}
 use Rattle.s2ix_bag_lists.specs.Faces.{all_of}
-use Rattle.s2ix_table.specs.FaceSpans.{spans_of}
+use Rattle.s2ix_table.specs.FaceSpans.{spans_of, tables_of}
 use Rattle.s2ix_table.specs.Joined.{AreNeighbours, held_in}
 use Rattle.s2ix_table.specs.Parts.{AreBegins, IsChangedSpan}
 use Rattle.s2ix_table.proofs.parts_changed.Span.made_anew.Given as goal
@@ -9,8 +9,8 @@ abbrev pub invariant-loop-rest : goal.invariant-loop-rest
 invariant-loop-rest l =
     IsChangedSpan (spans_of l.rest.tables.now) l.rest.lists.now l.rest.entries.now l.rest.from l.rest.to
     × AreBegins l.rest.entries.now l.begins
-    × AreNeighbours l.self.from (spans_of l.parts.items) l.rest.from
-    × (held_in (spans_of l.parts.items) ++ all_of l.rest.lists.now ≡ all_of l.self.lists.now)
+    × AreNeighbours l.self.from (tables_of l.parts.items) l.rest.from
+    × (held_in (tables_of l.parts.items) ++ all_of l.rest.lists.now ≡ all_of l.self.lists.now)
     × (l.rest.to ≡ l.self.to)
     × (l.count ≤ length l.self.tables.now)
     × (l.rest.tables.now ≡ drop l.count l.self.tables.now)

@@ -1,0 +1,87 @@
+//! The six faces of a table, made one after the other.
+ghost use Rattle.std.specs.Prelude.{◌≡◌, ◌++◌, ◌<◌, ◌≤◌, [], IfOk, OnOk, drop, length, set, take};
+ghost use Rattle.s2ix_table.specs.FaceSpans.{BeginFaces, overs_of, spans_of};
+ghost use Rattle.s2ix_table.specs.Joined.{held_in};
+ghost use Rattle.s2ix_table.specs.Layered.{IsLayout, heavy_in};
+ghost use Rattle.s2ix_table.specs.Layers.{together};
+
+use crate::face_after::all_anew;
+use crate::heavy_pairs::HeavyPairs;
+use crate::new_parts::NewFace;
+use crate::pair_reader::PairReader;
+use crate::part::Part;
+use crate::read_faces::read_list;
+use s2id_core::{FACES, OutOfMemory};
+use std::alloc::Global;
+
+// The parts of all faces, and the heavy pairs of each face.
+#[derive(Debug, Drop)]
+pub(crate) struct AllFaces {
+    pub(crate) parts: Vec<Part>,
+    pub(crate) heavy: [HeavyPairs; FACES],
+}
+
+impl AllFaces {
+    // No parts yet, with room for so many, and no heavy pairs. `OutOfMemory` if a growth is refused.
+    pub(crate) fn none(alloc: Global, count: usize) -> Result<AllFaces, OutOfMemory>
+        ensures parts { IfOk result (λ all. all.parts.items ≡ []) }
+        ensures heavy { IfOk result (λ all. length all.heavy ≡ 6) }
+    {
+        let parts = Vec::with_capacity(alloc, count)?;
+        Ok(AllFaces {
+            parts,
+            heavy: [
+                HeavyPairs::none(),
+                HeavyPairs::none(),
+                HeavyPairs::none(),
+                HeavyPairs::none(),
+                HeavyPairs::none(),
+                HeavyPairs::none(),
+            ],
+        })
+    }
+
+    // Puts the next face behind those that there are: of its parts `before` those that stay are shared. O(p) for the p parts of the face.
+    // `OutOfMemory` if a growth is refused, or a part is shared too often.
+    pub(crate) fn push(&mut self, new: NewFace, before: &[Part]) -> Result<(), OutOfMemory>
+        requires face { new.face < 6 }
+        requires order { new.first ≤ new.end }
+        requires within { new.end ≤ length before.now }
+        ensures parts { OnOk result (self.new.parts.items
+            ≡ self.old.parts.items ++ (take new.first before.now ++ (new.parts.items ++ drop new.end before.now))) }
+        ensures heavy { OnOk result (self.new.heavy ≡ set self.old.heavy new.face new.heavy) }
+    {
+        let NewFace {
+            face,
+            first,
+            end,
+            mut parts,
+            heavy,
+        } = new;
+        let (front, _) = before.split_at(first);
+        let (_, back) = before.split_at(end);
+        self.parts.extend_from_slice(front)?;
+        self.parts.append(&mut parts)?;
+        self.parts.extend_from_slice(back)?;
+        self.heavy[face] = heavy;
+        Ok(())
+    }
+}
+
+// The six faces of what a reader shows, each in two layers. O(n log n) for n pairs. `OutOfMemory` if a growth is refused.
+pub(crate) fn read_all_faces<B: PairReader>(
+    alloc: Global,
+    reader: &mut B,
+) -> Result<AllFaces, OutOfMemory>
+    ensures layout { IfOk result (λ all. IsLayout (spans_of all.parts.items) all.heavy (overs_of all.parts.items)) }
+    ensures faces { IfOk result (λ all. BeginFaces (spans_of all.parts.items)) }
+    ensures pairs { IfOk result (λ all. together (held_in (spans_of all.parts.items)) (heavy_in all.heavy) ≡ B.shown reader.old) }
+{
+    let mut all = AllFaces::none(alloc, 6)?;
+    for face in 0..6u8 {
+        let list = read_list(alloc, reader, face)?;
+        let new = all_anew(alloc, &list, face, 0)?;
+        all.push(new, &[])?;
+    }
+    Ok(all)
+}
