@@ -9,14 +9,14 @@ use Rattle.s2ix_bag_pairs.specs.Collection.{Collection}
 use Rattle.s2ix_bag_pairs.specs.declared.pair.Entry.{Entry}
 use Rattle.s2ix_table_walk.specs.Contents.{contents_at}
 use Rattle.s2ix_table_walk.specs.Places.{LeadsTo}
-use Rattle.s2ix_table_walk.specs.Table.{leaf_end}
+use Rattle.s2ix_table_walk.specs.Table.{Range, leaf_end}
 use Rattle.s2ix_table_spans.specs.Blocks.{HoldsCell}
 use Rattle.s2ix_table_spans.specs.SpanTable.{SpanRanges}
 use Rattle.s2ix_table_heavy.specs.Chunks.{AreChunks}
 use Rattle.s2ix_table_heavy.specs.HeavyChains.{heavy_chain}
 use Rattle.s2ix_table_heavy.specs.declared.heavy_place.HeavyPlace.{HeavyPlace}
-use Rattle.s2ix_table.specs.FaceSpans.{AreOnFace, face_begin}
-use Rattle.s2ix_table.specs.Joined.{AreNeighbours, held_in}
+use Rattle.s2ix_table.specs.FaceSpans.{AreOnFace, TablePart, face_begin, spans_of}
+use Rattle.s2ix_table.specs.Joined.{AreNeighbours, held_in, joined_ranges}
 use Rattle.s2ix_table.specs.Parts.{with_parts}
 use Rattle.s2ix_table.specs.Layers.{AreUnder, ShareNoCell, ShareNoPair, holds_cell, together, with_over}
 
@@ -53,6 +53,10 @@ pub record IsFaceWith (face : ℕ) (held : Collection) (parts : List SpanRanges)
   pub many : length made_overs ≡ length made
   pub layered : IsFaceLayered face heavy (with_parts parts first end made) (take first overs ++ (made_overs ++ drop end overs))
   pub pairs : together (held_in (with_parts parts first end made)) (all_of heavy) ≡ held
+
+-- the pairs of a face: those of its parts and of the chunks over them
+abbrev pub face_pairs : List TablePart → List Collection → Collection
+face_pairs parts chunks = together (held_in (spans_of parts)) (all_of chunks)
 
 -- no entry's cell is that of a heavy pair
 abbrev pub HaveLightCells : List Entry → Collection → Type 0
@@ -92,6 +96,14 @@ chunks_on heavy face = slice_index_or heavy face []
 -- the heavy pairs of all faces
 abbrev pub heavy_in : List (List Collection) → Collection
 heavy_in heavy = flat_map all_of heavy
+
+-- the pairs that parts show, under the heavy pairs of six faces
+abbrev pub pairs_of : List TablePart → List (List Collection) → Collection
+pairs_of parts heavy = together (held_in (spans_of parts)) (heavy_in heavy)
+
+-- the ranges that they show
+abbrev pub ranges_of : List TablePart → List (List Collection) → List Range
+ranges_of parts heavy = joined_ranges (covered (heavy_in heavy) (spans_of parts))
 
 -- the face on which a leaf number lies
 abbrev pub face_with : ℕ → ℕ

@@ -1,9 +1,7 @@
 //! The six faces of a table, made one after the other.
 ghost use Rattle.std.specs.Prelude.{◌≡◌, ◌++◌, ◌<◌, ◌≤◌, [], IfOk, OnOk, drop, length, set, take};
 ghost use Rattle.s2ix_table.specs.FaceSpans.{BeginFaces, overs_of, spans_of};
-ghost use Rattle.s2ix_table.specs.Joined.{held_in};
-ghost use Rattle.s2ix_table.specs.Layered.{IsLayout, heavy_in};
-ghost use Rattle.s2ix_table.specs.Layers.{together};
+ghost use Rattle.s2ix_table.specs.Layered.{IsLayout, pairs_of};
 
 use crate::face_after::all_anew;
 use crate::heavy_pairs::HeavyPairs;
@@ -75,7 +73,7 @@ pub(crate) fn read_all_faces<B: PairReader>(
 ) -> Result<AllFaces, OutOfMemory>
     ensures layout { IfOk result (λ all. IsLayout (spans_of all.parts.items) all.heavy (overs_of all.parts.items)) }
     ensures faces { IfOk result (λ all. BeginFaces (spans_of all.parts.items)) }
-    ensures pairs { IfOk result (λ all. together (held_in (spans_of all.parts.items)) (heavy_in all.heavy) ≡ B.shown reader.old) }
+    ensures pairs { IfOk result (λ all. pairs_of all.parts.items all.heavy ≡ B.shown reader.old) }
 {
     let mut all = AllFaces::none(alloc, 6)?;
     for face in 0..6u8 {

@@ -5,8 +5,7 @@ ghost use Rattle.s2ix_bag_pairs.specs.Change.{IsChangeList, changed};
 ghost use Rattle.s2ix_bag_pairs.specs.Collection.{IsCollection};
 ghost use Rattle.s2ix_table.specs.FaceSpans.{AreOnFace, face_begin, overs_of, spans_of, tables_of};
 ghost use Rattle.s2ix_table.specs.Joined.{AreNeighbours, held_in};
-ghost use Rattle.s2ix_table.specs.Layered.{IsFaceLayered, IsFaceWith};
-ghost use Rattle.s2ix_table.specs.Layers.{together};
+ghost use Rattle.s2ix_table.specs.Layered.{IsFaceLayered, IsFaceWith, face_pairs};
 ghost use Rattle.s2ix_table.specs.Parts.{with_parts};
 
 use crate::face_parts::{FaceParts, face_parts, has_large};
@@ -43,7 +42,7 @@ impl Face<'_> {
     ) -> Result<NewFace, OutOfMemory>
         requires six { self.face < 6 }
         requires layered { IsFaceLayered self.face self.heavy.now (spans_of self.parts.now) (overs_of self.parts.now) }
-        requires made { changed (together (held_in (spans_of self.parts.now)) (all_of self.heavy.now)) entries.now ≡ held.now }
+        requires made { changed (face_pairs self.parts.now self.heavy.now) entries.now ≡ held.now }
         requires entries_rise { IsChangeList entries.now }
         requires rises { IsCollection held.now }
         requires within_limit { length held.now ≤ 1000000 }
@@ -153,7 +152,7 @@ impl Face<'_> {
         ensures face { IfOk result (λ new. new.face ≡ self.entry.face) }
         ensures heavy { IfOk result (λ new. new.heavy ≡ self.entry.heavy.now) }
         ensures with { IfOk result (λ new. IsFaceWith self.entry.face
-            (together (held_in (spans_of self.entry.parts.now)) (all_of self.entry.heavy.now))
+            (face_pairs self.entry.parts.now self.entry.heavy.now)
             (spans_of self.entry.parts.now) (overs_of self.entry.parts.now)
             new.first new.end (spans_of new.parts.items) (overs_of new.parts.items) new.heavy) }
     {
@@ -207,7 +206,7 @@ pub(crate) fn all_anew(
     ensures first { IfOk result (λ new. new.first ≡ 0) }
     ensures end { IfOk result (λ new. new.end ≡ count) }
     ensures layered { IfOk result (λ new. IsFaceLayered face new.heavy (spans_of new.parts.items) (overs_of new.parts.items)) }
-    ensures pairs { IfOk result (λ new. together (held_in (spans_of new.parts.items)) (all_of new.heavy) ≡ held.now) }
+    ensures pairs { IfOk result (λ new. face_pairs new.parts.items new.heavy ≡ held.now) }
 {
     let FaceParts { parts, heavy } = face_parts(alloc, held, face)?;
     Ok(NewFace {

@@ -8,8 +8,7 @@ ghost use Rattle.s2ix_table_spans.specs.SpanTable.{IsInSpan};
 ghost use Rattle.s2ix_table_heavy.specs.Chunks.{AreChunks};
 ghost use Rattle.s2ix_table.specs.FaceSpans.{AreOnFace, overs_of, spans_of, tables_of};
 ghost use Rattle.s2ix_table.specs.Joined.{AreNeighbours, held_in};
-ghost use Rattle.s2ix_table.specs.Layered.{AreLightParts, IsFaceLayered};
-ghost use Rattle.s2ix_table.specs.Layers.{together};
+ghost use Rattle.s2ix_table.specs.Layered.{AreLightParts, IsFaceLayered, face_pairs};
 
 use crate::heavy_pairs::HeavyPairs;
 use crate::part::{Part, share_under};
@@ -43,7 +42,7 @@ pub(crate) fn face_parts(
     requires within_limit { length held.now ≤ 1000000 }
     requires on_face { AreOnFace face held.now }
     ensures layered { IfOk result (λ f. IsFaceLayered face f.heavy (spans_of f.parts.items) (overs_of f.parts.items)) }
-    ensures pairs { IfOk result (λ f. together (held_in (spans_of f.parts.items)) (all_of f.heavy) ≡ held.now) }
+    ensures pairs { IfOk result (λ f. face_pairs f.parts.items f.heavy ≡ held.now) }
 {
     let from = u64::from(face) * FACE_NUMBERS + 1;
     let to = from + FACE_NUMBERS;

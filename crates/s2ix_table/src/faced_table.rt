@@ -13,13 +13,12 @@ ghost use Rattle.s2ix_table_walk.specs.Shown.{AreBorders};
 ghost use Rattle.s2ix_table_walk.specs.Table.{range_at, IsFound, IsRangeTable, leaf_end};
 ghost use Rattle.s2ix_table.specs.Blocks.{AreBlocks};
 ghost use Rattle.s2ix_table.specs.Faces.{changed_count, held_on, changed_on, faces, faces_of, has_entry_on};
-ghost use Rattle.s2ix_table.specs.FaceSpans.{BeginFaces, overs_of, parts_of_face, spans_of, starts_of, table_of, AreOnFace, of_face};
-ghost use Rattle.s2ix_table.specs.Joined.{held_in, joined_ranges, AreNeighbours};
-ghost use Rattle.s2ix_table.specs.Layered.{AreLayered, IsLayout, covered, heavy_in, IsFaceLayered, IsFaceWith, chunks_on};
-ghost use Rattle.s2ix_table.specs.Layers.{together};
+ghost use Rattle.s2ix_table.specs.FaceSpans.{BeginFaces, overs_of, parts_of_face, spans_of, starts_of, table_of, of_face};
+ghost use Rattle.s2ix_table.specs.Joined.{held_in, AreNeighbours};
+ghost use Rattle.s2ix_table.specs.Layered.{AreLayered, IsFaceLayered, IsFaceWith, IsLayout, chunks_on, covered, face_pairs, heavy_in, pairs_of, ranges_of};
 ghost use Rattle.s2ix_table.specs.Offsets.{HasOwn, HasRange, place_on, places_of};
 ghost use Rattle.s2ix_table.specs.OneProof.{joined-prop, layered-prop, faced_once-prop};
-ghost use Rattle.s2ix_table.specs.PartPlaces.{chain_from, faced_chain};
+ghost use Rattle.s2ix_table.specs.PartPlaces.{faced_chain};
 ghost use Rattle.s2ix_table.specs.Parts.{with_parts};
 ghost use Rattle.s2ix_table.specs.Reading.{two_searches};
 ghost use Rattle.s2ix_table.specs.Whole.{AreJoined};
@@ -74,18 +73,18 @@ pub struct FacedTable {
     ghost joined: { AreJoined (spans_of parts.items) (heavy_in heavy) starts.items offsets.items faces count } by { joined-prop (spans_of parts.items) (heavy_in heavy) starts.items offsets.items faces count },
     ghost blocked: { AreBlocks starts.items blocks },
     ghost layered: { AreLayered heavy (spans_of parts.items) (overs_of parts.items) } by { layered-prop heavy (spans_of parts.items) (overs_of parts.items) },
-    ghost rises: { IsCollection (together (held_in (spans_of parts.items)) (heavy_in heavy)) } by { IsCollection-prop 0 (together (held_in (spans_of parts.items)) (heavy_in heavy)) },
-    ghost table: { IsRangeTable (together (held_in (spans_of parts.items)) (heavy_in heavy)) (joined_ranges (covered (heavy_in heavy) (spans_of parts.items))) },
-    ghost bordered: { AreBorders (joined_ranges (covered (heavy_in heavy) (spans_of parts.items))) (places_of offsets.items) },
+    ghost rises: { IsCollection (pairs_of parts.items heavy) } by { IsCollection-prop 0 (pairs_of parts.items heavy) },
+    ghost table: { IsRangeTable (pairs_of parts.items heavy) (ranges_of parts.items heavy) },
+    ghost bordered: { AreBorders (ranges_of parts.items heavy) (places_of offsets.items) },
     ghost once: { KeepsOnce (faced_chain (spans_of parts.items) heavy) } by { faced_once-prop (spans_of parts.items) heavy },
 }
 
 impl RangeTable for FacedTable {
     type Place = FacedPlace;
 
-    ghost pairs = { λ t. together (held_in (spans_of t.parts.items)) (heavy_in t.heavy) };
+    ghost pairs = { λ t. pairs_of t.parts.items t.heavy };
 
-    ghost ranges = { λ t. joined_ranges (covered (heavy_in t.heavy) (spans_of t.parts.items)) };
+    ghost ranges = { λ t. ranges_of t.parts.items t.heavy };
 
     ghost chain = { λ t p. faced_chain (spans_of t.parts.items) t.heavy p };
 
@@ -350,7 +349,7 @@ impl FacedTable {
         requires within_limit { length (changed (⟦<FacedTable as RangeTable>⟧.pairs self.now) change.now) ≤ 1000000 }
         ensures layout { IfOk result (λ all. IsLayout (spans_of all.parts.items) all.heavy (overs_of all.parts.items)) }
         ensures faces { IfOk result (λ all. BeginFaces (spans_of all.parts.items)) }
-        ensures pairs { IfOk result (λ all. together (held_in (spans_of all.parts.items)) (heavy_in all.heavy)
+        ensures pairs { IfOk result (λ all. pairs_of all.parts.items all.heavy
             ≡ changed (⟦<FacedTable as RangeTable>⟧.pairs self.now) change.now) }
     {
         let mut all = AllFaces::none(alloc, self.part_count())?;
@@ -396,7 +395,7 @@ impl FacedTable {
         ensures overs { overs_of result.parts.now ≡ of_face (overs_of self.now.parts.items) self.now.faces face }
         ensures heavy { result.heavy.now ≡ chunks_on self.now.heavy face }
         ensures layered { IsFaceLayered face result.heavy.now (spans_of result.parts.now) (overs_of result.parts.now) }
-        ensures pairs { together (held_in (spans_of result.parts.now)) (all_of result.heavy.now)
+        ensures pairs { face_pairs result.parts.now result.heavy.now
             ≡ held_on face (⟦<FacedTable as RangeTable>⟧.pairs self.now) }
     {
         all_are_chunks(&self.heavy);
@@ -583,7 +582,7 @@ impl FacedTable {
     fn own_found(&self, leaf: CellId) -> (usize, usize)
         ensures range { HasRange (spans_of self.now.parts.items) result.0 result.1 }
         ensures found { IsFound
-            (joined_ranges (covered (heavy_in self.now.heavy) (spans_of self.now.parts.items)))
+            (ranges_of self.now.parts.items self.now.heavy)
             (place_on self.now.offsets.items result.0 result.1)
             (raw_of leaf) }
     {
@@ -627,9 +626,9 @@ impl FacedTable {
     fn row_at(&self, part: usize, own: usize) -> RangeRow
         requires { HasOwn self.now.offsets.items self.now.count part own }
         ensures start { result.start
-            ≡ (range_at (joined_ranges (covered (heavy_in self.now.heavy) (spans_of self.now.parts.items))) (place_on self.now.offsets.items part own)).start }
+            ≡ (range_at (ranges_of self.now.parts.items self.now.heavy) (place_on self.now.offsets.items part own)).start }
         ensures limit { result.limit
-            ≡ (range_at (joined_ranges (covered (heavy_in self.now.heavy) (spans_of self.now.parts.items))) (place_on self.now.offsets.items part own)).limit }
+            ≡ (range_at (ranges_of self.now.parts.items self.now.heavy) (place_on self.now.offsets.items part own)).limit }
     {
         let row = self.span(part).range(own);
         let start = if own == 0 {
@@ -649,9 +648,9 @@ impl FacedTable {
         requires next { HasRange (spans_of self.now.parts.items) part (own + 1) }
         requires later { 0 < own }
         ensures start { result.start
-            ≡ (range_at (joined_ranges (covered (heavy_in self.now.heavy) (spans_of self.now.parts.items))) (place_on self.now.offsets.items part own)).start }
+            ≡ (range_at (ranges_of self.now.parts.items self.now.heavy) (place_on self.now.offsets.items part own)).start }
         ensures limit { result.limit
-            ≡ (range_at (joined_ranges (covered (heavy_in self.now.heavy) (spans_of self.now.parts.items))) (place_on self.now.offsets.items part own)).limit }
+            ≡ (range_at (ranges_of self.now.parts.items self.now.heavy) (place_on self.now.offsets.items part own)).limit }
     {
         let span = self.span(part);
         RangeRow {
@@ -666,7 +665,7 @@ impl FacedTable {
         requires { HasRange (spans_of self.now.parts.items) part own }
         ensures { LeadsTo (faced_chain (spans_of self.now.parts.items) self.now.heavy)
             result
-            (range_at (joined_ranges (covered (heavy_in self.now.heavy) (spans_of self.now.parts.items))) (place_on self.now.offsets.items part own)).contents }
+            (range_at (ranges_of self.now.parts.items self.now.heavy) (place_on self.now.offsets.items part own)).contents }
     {
         match self.span(part).first(own) {
             Some(node) => Some(FacedPlace::Light(PartPlace { part, node })),
@@ -742,12 +741,12 @@ impl FacedTable {
     #[cold]
     #[inline(never)]
     fn read_far(&self, k: usize) -> (RangeRow, Option<FacedPlace>, usize)
-        requires { k < length (joined_ranges (covered (heavy_in self.now.heavy) (spans_of self.now.parts.items))) }
-        ensures start { result.0.start ≡ (range_at (joined_ranges (covered (heavy_in self.now.heavy) (spans_of self.now.parts.items))) k).start }
-        ensures limit { result.0.limit ≡ (range_at (joined_ranges (covered (heavy_in self.now.heavy) (spans_of self.now.parts.items))) k).limit }
+        requires { k < length (ranges_of self.now.parts.items self.now.heavy) }
+        ensures start { result.0.start ≡ (range_at (ranges_of self.now.parts.items self.now.heavy) k).start }
+        ensures limit { result.0.limit ≡ (range_at (ranges_of self.now.parts.items self.now.heavy) k).limit }
         ensures first { LeadsTo (faced_chain (spans_of self.now.parts.items) self.now.heavy)
             result.1
-            (range_at (joined_ranges (covered (heavy_in self.now.heavy) (spans_of self.now.parts.items))) k).contents }
+            (range_at (ranges_of self.now.parts.items self.now.heavy) k).contents }
     {
         let (part, own) = self.own_place(k);
         (self.row_at(part, own), self.first_at(part, own), part)

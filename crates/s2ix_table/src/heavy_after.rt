@@ -6,8 +6,7 @@ ghost use Rattle.s2ix_bag_lists.specs.Faces.{all_of};
 ghost use Rattle.s2ix_bag_pairs.specs.Change.{IsChangeList, changed};
 ghost use Rattle.s2ix_table.specs.FaceSpans.{AreOnFace, overs_of, spans_of};
 ghost use Rattle.s2ix_table.specs.Joined.{AreNeighbours, held_in};
-ghost use Rattle.s2ix_table.specs.Layered.{AreLightParts, HaveOtherCells, IsFaceLayered, IsFaceWith, IsUnder};
-ghost use Rattle.s2ix_table.specs.Layers.{together};
+ghost use Rattle.s2ix_table.specs.Layered.{AreLightParts, HaveOtherCells, IsFaceLayered, IsFaceWith, IsUnder, face_pairs};
 
 use crate::chunks_after::chunks_after;
 use crate::face_after::Face;
@@ -42,7 +41,7 @@ impl Face<'_> {
         ensures first { IfOk result (λ made. IfSome made (λ new. new.first ≡ 0)) }
         ensures end { IfOk result (λ made. IfSome made (λ new. new.end ≡ length (spans_of self.entry.parts.now))) }
         ensures with { IfOk result (λ made. IfSome made (λ new. IsFaceWith self.entry.face
-            (changed (together (held_in (spans_of self.entry.parts.now)) (all_of self.entry.heavy.now)) entries.now)
+            (changed (face_pairs self.entry.parts.now self.entry.heavy.now) entries.now)
             (spans_of self.entry.parts.now) (overs_of self.entry.parts.now)
             new.first new.end (spans_of new.parts.items) (overs_of new.parts.items) new.heavy)) }
     {

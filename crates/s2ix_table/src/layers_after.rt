@@ -3,9 +3,9 @@ ghost use Rattle.std.specs.Prelude.{◌≡◌, ◌<◌, ◌≤◌, ◌+◌, ◌+
 ghost use Rattle.s2ix_bag_lists.specs.Faces.{all_of};
 ghost use Rattle.s2ix_bag_pairs.specs.Change.{IsChangeList, changed};
 ghost use Rattle.s2ix_table.specs.FaceSpans.{AreOnFace, face_begin, overs_of, spans_of};
-ghost use Rattle.s2ix_table.specs.Joined.{AreNeighbours, held_in};
-ghost use Rattle.s2ix_table.specs.Layered.{IsFaceLayered, IsFaceWith, goes_over};
-ghost use Rattle.s2ix_table.specs.Layers.{entries_where, fails, together};
+ghost use Rattle.s2ix_table.specs.Joined.{AreNeighbours};
+ghost use Rattle.s2ix_table.specs.Layered.{IsFaceLayered, IsFaceWith, face_pairs, goes_over};
+ghost use Rattle.s2ix_table.specs.Layers.{entries_where, fails};
 
 use crate::face_after::Face;
 use crate::new_parts::{NewFace, put_between};
@@ -36,13 +36,13 @@ impl Face<'_> {
         requires six { self.face < 6 }
         requires layered { IsFaceLayered self.face self.heavy.now (spans_of self.parts.now) (overs_of self.parts.now) }
         requires entries_rise { IsChangeList entries.now }
-        requires on_face { AreOnFace self.face (changed (together (held_in (spans_of self.parts.now)) (all_of self.heavy.now)) entries.now) }
-        requires within_limit { length (changed (together (held_in (spans_of self.parts.now)) (all_of self.heavy.now)) entries.now) ≤ 1000000 }
+        requires on_face { AreOnFace self.face (changed (face_pairs self.parts.now self.heavy.now) entries.now) }
+        requires within_limit { length (changed (face_pairs self.parts.now self.heavy.now) entries.now) ≤ 1000000 }
         ensures face { IfOk result (λ made. IfSome made (λ new. new.face ≡ self.entry.face)) }
         ensures first { IfOk result (λ made. IfSome made (λ new. new.first ≡ 0)) }
         ensures end { IfOk result (λ made. IfSome made (λ new. new.end ≡ length (spans_of self.entry.parts.now))) }
         ensures with { IfOk result (λ made. IfSome made (λ new. IsFaceWith self.entry.face
-            (changed (together (held_in (spans_of self.entry.parts.now)) (all_of self.entry.heavy.now)) entries.now)
+            (changed (face_pairs self.entry.parts.now self.entry.heavy.now) entries.now)
             (spans_of self.entry.parts.now) (overs_of self.entry.parts.now)
             new.first new.end (spans_of new.parts.items) (overs_of new.parts.items) new.heavy)) }
     {
@@ -134,14 +134,14 @@ impl NewFace {
         requires six { face < 6 }
         requires layered { IsFaceLayered face self.heavy (spans_of self.parts.items) (overs_of self.parts.items) }
         requires entries_rise { IsChangeList entries.now }
-        requires within_limit { length (changed (together (held_in (spans_of self.parts.items)) (all_of self.heavy)) entries.now) ≤ 1000000 }
+        requires within_limit { length (changed (face_pairs self.parts.items self.heavy) entries.now) ≤ 1000000 }
         ensures face { IfOk result (λ made. IfSome made (λ new. new.face ≡ self.face)) }
         ensures first { IfOk result (λ made. IfSome made (λ new. new.first ≡ self.first)) }
         ensures end { IfOk result (λ made. IfSome made (λ new. new.end ≡ self.end)) }
         ensures layered { IfOk result (λ made. IfSome made (λ new.
             IsFaceLayered face new.heavy (spans_of new.parts.items) (overs_of new.parts.items))) }
-        ensures pairs { IfOk result (λ made. IfSome made (λ new. together (held_in (spans_of new.parts.items)) (all_of new.heavy)
-            ≡ changed (together (held_in (spans_of self.parts.items)) (all_of self.heavy)) entries.now)) }
+        ensures pairs { IfOk result (λ made. IfSome made (λ new. face_pairs new.parts.items new.heavy
+            ≡ changed (face_pairs self.parts.items self.heavy) entries.now)) }
     {
         let old = Face {
             face,

@@ -2,8 +2,7 @@
 ghost use Rattle.std.specs.Prelude.{◌≡◌, ◌↔◌, ◌-◌, IsTrue, ◌<◌, ◌≤◌, IfOk, length, max, take};
 ghost use Rattle.s2ix_table_walk.specs.Contents.{contents_at};
 ghost use Rattle.s2ix_table.specs.FaceSpans.{overs_of, spans_of, table_of};
-ghost use Rattle.s2ix_table.specs.Joined.{joined_ranges};
-ghost use Rattle.s2ix_table.specs.Layered.{IsLayout, covered, heavy_in};
+ghost use Rattle.s2ix_table.specs.Layered.{IsLayout, covered, heavy_in, ranges_of};
 ghost use Rattle.s2ix_table.specs.Offsets.{AreOffsetsFrom, offsets_of};
 
 use crate::heavy_pairs::HeavyPairs;
@@ -38,7 +37,7 @@ impl Layout<'_> {
         requires before { take first offsets.old ≡ take first (offsets_of (covered (heavy_in self.heavy.now) (spans_of self.parts.now))) }
         requires behind { AreOffsetsFrom end offsets.old (covered (heavy_in self.heavy.now) (spans_of self.parts.now)) }
         ensures offsets { offsets.new ≡ offsets_of (covered (heavy_in self.entry.heavy.now) (spans_of self.entry.parts.now)) }
-        ensures count { result ≡ length (joined_ranges (covered (heavy_in self.entry.heavy.now) (spans_of self.entry.parts.now))) }
+        ensures count { result ≡ length (ranges_of self.entry.parts.now self.entry.heavy.now) }
     {
         offsets[0] = Offset::FIRST;
         let mut next = first.max(1);

@@ -4,8 +4,7 @@ ghost use Rattle.s2ix_bag_lists.specs.Faces.{all_of};
 ghost use Rattle.s2ix_bag_pairs.specs.Change.{IsChangeList, changed};
 ghost use Rattle.s2ix_table.specs.FaceSpans.{face_begin, overs_of, spans_of};
 ghost use Rattle.s2ix_table.specs.Joined.{held_in};
-ghost use Rattle.s2ix_table.specs.Layered.{HaveLightCells, IsFaceLayered, IsFaceWith};
-ghost use Rattle.s2ix_table.specs.Layers.{together};
+ghost use Rattle.s2ix_table.specs.Layered.{HaveLightCells, IsFaceLayered, IsFaceWith, face_pairs};
 ghost use Rattle.s2ix_table.specs.Parts.{EntriesBeginFrom, EntriesEndBy, AreTouched};
 
 use crate::face_after::Face;
@@ -44,11 +43,11 @@ impl Face<'_> {
         requires six { self.face < 6 }
         requires layered { IsFaceLayered self.face self.heavy.now (spans_of self.parts.now) (overs_of self.parts.now) }
         requires entries_rise { IsChangeList entries.now }
-        requires within_limit { length (changed (together (held_in (spans_of self.parts.now)) (all_of self.heavy.now)) entries.now) ≤ 1000000 }
+        requires within_limit { length (changed (face_pairs self.parts.now self.heavy.now) entries.now) ≤ 1000000 }
         ensures face { IfOk result (λ made. IfSome made (λ new. new.face ≡ self.entry.face)) }
         ensures heavy { IfOk result (λ made. IfSome made (λ new. new.heavy ≡ self.entry.heavy.now)) }
         ensures with { IfOk result (λ made. IfSome made (λ new. IsFaceWith self.entry.face
-            (changed (together (held_in (spans_of self.entry.parts.now)) (all_of self.entry.heavy.now)) entries.now)
+            (changed (face_pairs self.entry.parts.now self.entry.heavy.now) entries.now)
             (spans_of self.entry.parts.now) (overs_of self.entry.parts.now)
             new.first new.end (spans_of new.parts.items) (overs_of new.parts.items) new.heavy)) }
     {
@@ -77,14 +76,14 @@ impl Face<'_> {
         requires six { self.face < 6 }
         requires layered { IsFaceLayered self.face self.heavy.now (spans_of self.parts.now) (overs_of self.parts.now) }
         requires entries_rise { IsChangeList entries.now }
-        requires within_limit { length (changed (together (held_in (spans_of self.parts.now)) (all_of self.heavy.now)) entries.now) ≤ 1000000 }
+        requires within_limit { length (changed (face_pairs self.parts.now self.heavy.now) entries.now) ≤ 1000000 }
         requires light { HaveLightCells entries.now (all_of self.heavy.now) }
         requires touched { AreTouched (spans_of self.parts.now) entries.now (face_begin (self.face + 1))
             touched.first touched.end touched.from touched.to }
         ensures face { IfOk result (λ made. IfSome made (λ new. new.face ≡ self.entry.face)) }
         ensures heavy { IfOk result (λ made. IfSome made (λ new. new.heavy ≡ self.entry.heavy.now)) }
         ensures with { IfOk result (λ made. IfSome made (λ new. IsFaceWith self.entry.face
-            (changed (together (held_in (spans_of self.entry.parts.now)) (all_of self.entry.heavy.now)) entries.now)
+            (changed (face_pairs self.entry.parts.now self.entry.heavy.now) entries.now)
             (spans_of self.entry.parts.now) (overs_of self.entry.parts.now)
             new.first new.end (spans_of new.parts.items) (overs_of new.parts.items) new.heavy)) }
     {

@@ -21,7 +21,8 @@ use std::sync::Arc;
 /// What a change makes of the parts `before` of a table, which together go over the leaves from the number `from` up to `to`. `held` is
 /// what the entries make of their pairs, in lists, each before the next one. The parts on both sides of all entries stay. Between them, a
 /// part that no entry's cell touches is shared; what the others hold is made anew, together with parts that a list reaches into. No clause
-/// says which parts stay, only the bench shows it. O(p + m + k) for p parts, m entries and the k pairs of the parts made anew. `OutOfMemory` if a growth is refused, or a part is shared too often.
+/// says which parts stay, only the bench shows it. O(p + m + k) for p parts, m entries and the k pairs of the parts made anew.
+/// `OutOfMemory` if a growth is refused, or a part is shared too often.
 pub fn parts_after(
     alloc: Global,
     before: &[Arc<SpanTable>],
@@ -49,7 +50,8 @@ pub fn parts_after(
     changed_parts(alloc, parts.as_slice(), held, entries, from, to)
 }
 
-// The same, of the parts of a face without heavy pairs. O(log p) in place of O(p).
+// The same, of parts as a table keeps them, without heavy pairs. O(log p + q + m + k) if q of the parts lie from the first entry to the last
+// one.
 pub(crate) fn changed_parts(
     alloc: Global,
     before: &[Part],
