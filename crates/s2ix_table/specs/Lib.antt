@@ -24,3 +24,4 @@ pub mod Blocks
 pub mod Layers
 pub mod Layered
 pub mod Split
+pub mod Made

@@ -1,5 +1,5 @@
 //! The pairs of a face in two layers: light pairs in parts, and heavy ones in chunks over them.
-ghost use Rattle.std.specs.Prelude.{◌≡◌, ◌↔◌, ◌*◌, ◌<◌, ◌≤◌, [], None, IfOk, IfSome, IsTrue, length, take, drop, replicate};
+ghost use Rattle.std.specs.Prelude.{◌≡◌, ◌↔◌, ◌*◌, ◌<◌, ◌≤◌, [], None, IfOk, IsTrue, length, take, drop, replicate};
 ghost use Rattle.s2id_core.specs.Span.{leaf_end};
 ghost use Rattle.s2ix_bag_lists.specs.Faces.{all_of};
 ghost use Rattle.s2ix_bag_pairs.specs.Collection.{AreBelow, IsCollection, IsCollectionFrom};
@@ -9,6 +9,7 @@ ghost use Rattle.s2ix_table_heavy.specs.Chunks.{AreChunks};
 ghost use Rattle.s2ix_table.specs.FaceSpans.{AreOnFace, overs_of, spans_of, tables_of};
 ghost use Rattle.s2ix_table.specs.Joined.{AreNeighbours, held_in};
 ghost use Rattle.s2ix_table.specs.Layered.{AreLightParts, IsFaceLayered, face_pairs};
+ghost use Rattle.s2ix_table.specs.Made.{IfOkSome};
 
 use crate::heavy_pairs::HeavyPairs;
 use crate::part::{Part, share_under};
@@ -94,9 +95,9 @@ fn layered(
     requires span { IsInSpan layers.light.items from to }
     requires leaves { to ≤ leaf_end }
     requires chunks { AreChunks layers.chunks.items }
-    ensures heavy { IfOk result (λ made. IfSome made (λ f. f.heavy ≡ layers.chunks.items)) }
-    ensures parts { IfOk result (λ made. IfSome made (λ f.
-        AreLightParts layers.chunks.items layers.light.items from (spans_of f.parts.items) (overs_of f.parts.items) to)) }
+    ensures heavy { IfOkSome result (λ f. f.heavy ≡ layers.chunks.items) }
+    ensures parts { IfOkSome result (λ f.
+        AreLightParts layers.chunks.items layers.light.items from (spans_of f.parts.items) (overs_of f.parts.items) to) }
 {
     let heavy = HeavyPairs::over(alloc, layers.chunks)?;
     over_spans(
@@ -122,9 +123,9 @@ pub(crate) fn over_spans(
     requires within_limit { length light.now ≤ 1000000 }
     requires span { IsInSpan light.now from to }
     requires leaves { to ≤ leaf_end }
-    ensures heavy { IfOk result (λ made. IfSome made (λ f. f.heavy ≡ heavy)) }
-    ensures parts { IfOk result (λ made. IfSome made (λ f.
-        AreLightParts heavy light.now from (spans_of f.parts.items) (overs_of f.parts.items) to)) }
+    ensures heavy { IfOkSome result (λ f. f.heavy ≡ heavy) }
+    ensures parts { IfOkSome result (λ f.
+        AreLightParts heavy light.now from (spans_of f.parts.items) (overs_of f.parts.items) to) }
 {
     let mut parts = Vec::new(alloc);
     let mut rest = light;

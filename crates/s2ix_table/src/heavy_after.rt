@@ -1,12 +1,13 @@
 //! What a change of heavy cells makes of a face: the parts stay within which the heavy pairs don't change, and so do the chunks that it
 //! does not touch.
-ghost use Rattle.std.specs.Prelude.{◌≡◌, ◌<◌, ◌≤◌, ◌+◌, ◌++◌, ◌%◌, ◌∷◌, [], IfOk, IfSome, OnOk, length};
+ghost use Rattle.std.specs.Prelude.{◌≡◌, ◌<◌, ◌≤◌, ◌+◌, ◌++◌, ◌%◌, ◌∷◌, [], OnOk, length};
 ghost use Rattle.s2id_core.specs.Span.{leaf_end};
 ghost use Rattle.s2ix_bag_lists.specs.Faces.{all_of};
 ghost use Rattle.s2ix_bag_pairs.specs.Change.{IsChangeList, changed};
 ghost use Rattle.s2ix_table.specs.FaceSpans.{AreOnFace, overs_of, spans_of};
 ghost use Rattle.s2ix_table.specs.Joined.{AreNeighbours, held_in};
 ghost use Rattle.s2ix_table.specs.Layered.{AreLightParts, HaveOtherCells, IsFaceLayered, IsFaceWith, IsUnder, face_pairs};
+ghost use Rattle.s2ix_table.specs.Made.{IfOkSome};
 
 use crate::chunks_after::chunks_after;
 use crate::face_after::Face;
@@ -37,13 +38,13 @@ impl Face<'_> {
         requires apart { HaveOtherCells entries.now (held_in (spans_of self.parts.now)) }
         requires on_face { AreOnFace self.face (changed (all_of self.heavy.now) entries.now) }
         requires within_limit { length (changed (all_of self.heavy.now) entries.now) ≤ 1000000 }
-        ensures face { IfOk result (λ made. IfSome made (λ new. new.face ≡ self.entry.face)) }
-        ensures first { IfOk result (λ made. IfSome made (λ new. new.first ≡ 0)) }
-        ensures end { IfOk result (λ made. IfSome made (λ new. new.end ≡ length (spans_of self.entry.parts.now))) }
-        ensures with { IfOk result (λ made. IfSome made (λ new. IsFaceWith self.entry.face
+        ensures face { IfOkSome result (λ new. new.face ≡ self.entry.face) }
+        ensures first { IfOkSome result (λ new. new.first ≡ 0) }
+        ensures end { IfOkSome result (λ new. new.end ≡ length (spans_of self.entry.parts.now)) }
+        ensures with { IfOkSome result (λ new. IsFaceWith self.entry.face
             (changed (face_pairs self.entry.parts.now self.entry.heavy.now) entries.now)
             (spans_of self.entry.parts.now) (overs_of self.entry.parts.now)
-            new.first new.end (spans_of new.parts.items) (overs_of new.parts.items) new.heavy)) }
+            new.first new.end (spans_of new.parts.items) (overs_of new.parts.items) new.heavy) }
     {
         let chunks = chunks_after(alloc, self.heavy.chunks(), entries, max_part_len)?;
         let heavy = HeavyPairs::over(alloc, chunks)?;
@@ -84,9 +85,9 @@ fn parts_under(
 ) -> Result<Option<FaceParts>, OutOfMemory>
     requires neighbours { AreNeighbours from (spans_of parts.now) to }
     requires leaves { to ≤ leaf_end }
-    ensures heavy { IfOk result (λ made. IfSome made (λ f. f.heavy ≡ heavy)) }
-    ensures parts { IfOk result (λ made. IfSome made (λ f.
-        AreLightParts heavy (held_in (spans_of parts.now)) from (spans_of f.parts.items) (overs_of f.parts.items) to)) }
+    ensures heavy { IfOkSome result (λ f. f.heavy ≡ heavy) }
+    ensures parts { IfOkSome result (λ f.
+        AreLightParts heavy (held_in (spans_of parts.now)) from (spans_of f.parts.items) (overs_of f.parts.items) to) }
 {
     let mut made = Vec::with_capacity(alloc, parts.len())?;
     let mut known = (None, from);

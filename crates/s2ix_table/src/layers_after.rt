@@ -6,6 +6,7 @@ ghost use Rattle.s2ix_table.specs.FaceSpans.{AreOnFace, face_begin, overs_of, sp
 ghost use Rattle.s2ix_table.specs.Joined.{AreNeighbours};
 ghost use Rattle.s2ix_table.specs.Layered.{IsFaceLayered, IsFaceWith, face_pairs, goes_over};
 ghost use Rattle.s2ix_table.specs.Layers.{entries_where, fails};
+ghost use Rattle.s2ix_table.specs.Made.{IfOkSome};
 
 use crate::face_after::Face;
 use crate::new_parts::{NewFace, put_between};
@@ -38,13 +39,13 @@ impl Face<'_> {
         requires entries_rise { IsChangeList entries.now }
         requires on_face { AreOnFace self.face (changed (face_pairs self.parts.now self.heavy.now) entries.now) }
         requires within_limit { length (changed (face_pairs self.parts.now self.heavy.now) entries.now) ≤ 1000000 }
-        ensures face { IfOk result (λ made. IfSome made (λ new. new.face ≡ self.entry.face)) }
-        ensures first { IfOk result (λ made. IfSome made (λ new. new.first ≡ 0)) }
-        ensures end { IfOk result (λ made. IfSome made (λ new. new.end ≡ length (spans_of self.entry.parts.now))) }
-        ensures with { IfOk result (λ made. IfSome made (λ new. IsFaceWith self.entry.face
+        ensures face { IfOkSome result (λ new. new.face ≡ self.entry.face) }
+        ensures first { IfOkSome result (λ new. new.first ≡ 0) }
+        ensures end { IfOkSome result (λ new. new.end ≡ length (spans_of self.entry.parts.now)) }
+        ensures with { IfOkSome result (λ new. IsFaceWith self.entry.face
             (changed (face_pairs self.entry.parts.now self.entry.heavy.now) entries.now)
             (spans_of self.entry.parts.now) (overs_of self.entry.parts.now)
-            new.first new.end (spans_of new.parts.items) (overs_of new.parts.items) new.heavy)) }
+            new.first new.end (spans_of new.parts.items) (overs_of new.parts.items) new.heavy) }
     {
         let Some(own) = self.entries_by_layer(alloc, entries)? else {
             return Ok(None);
@@ -71,10 +72,10 @@ impl Face<'_> {
     ) -> Result<Option<LayerEntries>, OutOfMemory>
         requires six { self.face < 6 }
         requires neighbours { AreNeighbours (face_begin self.face) (spans_of self.parts.now) (face_begin (self.face + 1)) }
-        ensures heavy { IfOk result (λ made. IfSome made (λ own. own.heavy.items
-            ≡ entries_where (goes_over (spans_of self.entry.parts.now) (all_of self.entry.heavy.now)) entries.now)) }
-        ensures light { IfOk result (λ made. IfSome made (λ own. own.light.items
-            ≡ entries_where (fails (goes_over (spans_of self.entry.parts.now) (all_of self.entry.heavy.now))) entries.now)) }
+        ensures heavy { IfOkSome result (λ own. own.heavy.items
+            ≡ entries_where (goes_over (spans_of self.entry.parts.now) (all_of self.entry.heavy.now)) entries.now) }
+        ensures light { IfOkSome result (λ own. own.light.items
+            ≡ entries_where (fails (goes_over (spans_of self.entry.parts.now) (all_of self.entry.heavy.now))) entries.now) }
     {
         let mut own = LayerEntries {
             light: Vec::new(alloc),
@@ -135,13 +136,13 @@ impl NewFace {
         requires layered { IsFaceLayered face self.heavy (spans_of self.parts.items) (overs_of self.parts.items) }
         requires entries_rise { IsChangeList entries.now }
         requires within_limit { length (changed (face_pairs self.parts.items self.heavy) entries.now) ≤ 1000000 }
-        ensures face { IfOk result (λ made. IfSome made (λ new. new.face ≡ self.face)) }
-        ensures first { IfOk result (λ made. IfSome made (λ new. new.first ≡ self.first)) }
-        ensures end { IfOk result (λ made. IfSome made (λ new. new.end ≡ self.end)) }
-        ensures layered { IfOk result (λ made. IfSome made (λ new.
-            IsFaceLayered face new.heavy (spans_of new.parts.items) (overs_of new.parts.items))) }
-        ensures pairs { IfOk result (λ made. IfSome made (λ new. face_pairs new.parts.items new.heavy
-            ≡ changed (face_pairs self.parts.items self.heavy) entries.now)) }
+        ensures face { IfOkSome result (λ new. new.face ≡ self.face) }
+        ensures first { IfOkSome result (λ new. new.first ≡ self.first) }
+        ensures end { IfOkSome result (λ new. new.end ≡ self.end) }
+        ensures layered { IfOkSome result (λ new.
+            IsFaceLayered face new.heavy (spans_of new.parts.items) (overs_of new.parts.items)) }
+        ensures pairs { IfOkSome result (λ new. face_pairs new.parts.items new.heavy
+            ≡ changed (face_pairs self.parts.items self.heavy) entries.now) }
     {
         let old = Face {
             face,

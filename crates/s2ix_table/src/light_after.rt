@@ -5,6 +5,7 @@ ghost use Rattle.s2ix_bag_pairs.specs.Change.{IsChangeList, changed};
 ghost use Rattle.s2ix_table.specs.FaceSpans.{face_begin, overs_of, spans_of};
 ghost use Rattle.s2ix_table.specs.Joined.{held_in};
 ghost use Rattle.s2ix_table.specs.Layered.{HaveLightCells, IsFaceLayered, IsFaceWith, face_pairs};
+ghost use Rattle.s2ix_table.specs.Made.{IfOkSome};
 ghost use Rattle.s2ix_table.specs.Parts.{EntriesBeginFrom, EntriesEndBy, AreTouched};
 
 use crate::face_after::Face;
@@ -44,12 +45,12 @@ impl Face<'_> {
         requires layered { IsFaceLayered self.face self.heavy.now (spans_of self.parts.now) (overs_of self.parts.now) }
         requires entries_rise { IsChangeList entries.now }
         requires within_limit { length (changed (face_pairs self.parts.now self.heavy.now) entries.now) ≤ 1000000 }
-        ensures face { IfOk result (λ made. IfSome made (λ new. new.face ≡ self.entry.face)) }
-        ensures heavy { IfOk result (λ made. IfSome made (λ new. new.heavy ≡ self.entry.heavy.now)) }
-        ensures with { IfOk result (λ made. IfSome made (λ new. IsFaceWith self.entry.face
+        ensures face { IfOkSome result (λ new. new.face ≡ self.entry.face) }
+        ensures heavy { IfOkSome result (λ new. new.heavy ≡ self.entry.heavy.now) }
+        ensures with { IfOkSome result (λ new. IsFaceWith self.entry.face
             (changed (face_pairs self.entry.parts.now self.entry.heavy.now) entries.now)
             (spans_of self.entry.parts.now) (overs_of self.entry.parts.now)
-            new.first new.end (spans_of new.parts.items) (overs_of new.parts.items) new.heavy)) }
+            new.first new.end (spans_of new.parts.items) (overs_of new.parts.items) new.heavy) }
     {
         if entries.is_empty() {
             let same = self.unchanged(alloc)?;
@@ -80,12 +81,12 @@ impl Face<'_> {
         requires light { HaveLightCells entries.now (all_of self.heavy.now) }
         requires touched { AreTouched (spans_of self.parts.now) entries.now (face_begin (self.face + 1))
             touched.first touched.end touched.from touched.to }
-        ensures face { IfOk result (λ made. IfSome made (λ new. new.face ≡ self.entry.face)) }
-        ensures heavy { IfOk result (λ made. IfSome made (λ new. new.heavy ≡ self.entry.heavy.now)) }
-        ensures with { IfOk result (λ made. IfSome made (λ new. IsFaceWith self.entry.face
+        ensures face { IfOkSome result (λ new. new.face ≡ self.entry.face) }
+        ensures heavy { IfOkSome result (λ new. new.heavy ≡ self.entry.heavy.now) }
+        ensures with { IfOkSome result (λ new. IsFaceWith self.entry.face
             (changed (face_pairs self.entry.parts.now self.entry.heavy.now) entries.now)
             (spans_of self.entry.parts.now) (overs_of self.entry.parts.now)
-            new.first new.end (spans_of new.parts.items) (overs_of new.parts.items) new.heavy)) }
+            new.first new.end (spans_of new.parts.items) (overs_of new.parts.items) new.heavy) }
     {
         let (_, later) = self.parts.split_at(touched.first);
         let (own, _) = later.split_at(touched.end - touched.first);

@@ -1,11 +1,12 @@
 //! The parts of a table after a change: made anew only where it changed something.
-ghost use Rattle.std.specs.Prelude.{◌≡◌, ℕ, ◌++◌, ◌<◌, ◌≤◌, ◌+◌, ◌*◌, [], IfOk, IfSome, OnOk, IsTrue, IsFalse, length, take, drop};
+ghost use Rattle.std.specs.Prelude.{◌≡◌, ℕ, ◌++◌, ◌<◌, ◌≤◌, ◌+◌, ◌*◌, [], IfOk, OnOk, IsTrue, IsFalse, length, take, drop};
 ghost use Rattle.s2ix_bag_lists.specs.Faces.{all_of};
 ghost use Rattle.s2ix_bag_pairs.specs.Change.{IsChangeList, changed};
 ghost use Rattle.s2ix_bag_pairs.specs.Collection.{AreBelow, IsCollection, IsCollectionFrom};
 ghost use Rattle.s2ix_table_spans.specs.SpanTable.{IsInSpan, IsSpanTable};
 ghost use Rattle.s2ix_table.specs.FaceSpans.{spans_of, table_of, tables_of};
 ghost use Rattle.s2ix_table.specs.Joined.{AreNeighbours, held_in};
+ghost use Rattle.s2ix_table.specs.Made.{IfOkSome};
 ghost use Rattle.s2ix_table.specs.Parts.{AreBegins, EntriesEndBy, IsChangedSpan, IsCut, with_parts};
 
 use crate::new_parts::NewParts;
@@ -347,10 +348,10 @@ impl<'a> Span<'a> {
     // The table of the span after the change, if it is one table before it and stays one: shared, if there is no entry.
     fn one_part(self, alloc: Global) -> Result<Option<Arc<SpanTable>>, OutOfMemory>
         requires { IsChangedSpan (spans_of self.tables.now) self.lists.now self.entries.now self.from self.to }
-        ensures pairs { IfOk result (λ part. IfSome part (λ own. own.value.held ≡ all_of self.entry.lists.now)) }
-        ensures begins { IfOk result (λ part. IfSome part (λ own. own.value.from ≡ self.entry.from)) }
-        ensures ends { IfOk result (λ part. IfSome part (λ own. own.value.to ≡ self.entry.to)) }
-        ensures table { IfOk result (λ part. IfSome part (λ own. IsSpanTable own.value)) }
+        ensures pairs { IfOkSome result (λ own. own.value.held ≡ all_of self.entry.lists.now) }
+        ensures begins { IfOkSome result (λ own. own.value.from ≡ self.entry.from) }
+        ensures ends { IfOkSome result (λ own. own.value.to ≡ self.entry.to) }
+        ensures table { IfOkSome result (λ own. IsSpanTable own.value) }
     {
         if self.tables.len() != 1 {
             return Ok(None);
