@@ -9,7 +9,7 @@ use Rattle.s2ix_bag_pairs.specs.declared.pair.Entry.{Entry}
 use Rattle.s2ix_bag_pairs.proofs.Changes.{changed-append}
 use Rattle.s2ix_bag_lists.specs.Apply.{AreBefore}
 use Rattle.s2ix_bag_lists.specs.Faces.{AreEntriesBelow, all_of, face_start}
-use Rattle.s2ix_bag_lists.proofs.Joined.{count_front, count_back, changed_back, changed_below, changed_by_parts}
+use Rattle.s2ix_bag_lists.proofs.Joined.{below_in_back, count_front, count_back, changed_back, changed_below, changed_by_parts}
 use Rattle.s2ix_bag_lists.specs.Parts.{AreEntriesUpTo}
 use Rattle.s2ix_bag_lists.proofs.Joins.{all_push, all_split, front_below, back_rises}
 use Rattle.s2ix_bag_lists.proofs.Searches.{begins_with}
@@ -81,10 +81,6 @@ before_behind m n fs bs (e ∷ es) le below es_is befores = (
 pub before_in_back : (hs : Collection) (es gs : List Entry) → AreBefore hs (es ++ gs) → AreBefore hs gs
 before_in_back hs [] gs befores = befores
 before_in_back hs (e ∷ es) gs befores = before_in_back hs es gs befores.1
-
-pub below_in_back : (n : ℕ) (fs hs : Collection) → AreBelow n (fs ++ hs) → AreBelow n hs
-below_in_back n [] hs below = below
-below_in_back n (f ∷ fs) hs below = below_in_back n fs hs below.1
 
 pub part_below : (ps : List Collection) (i n : ℕ) → i < length ps → AreBelow n (all_of (take (i + 1) ps)) → AreBelow n (get_or ps i [])
 part_below ps i n within below =

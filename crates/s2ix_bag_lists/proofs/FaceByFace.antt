@@ -13,7 +13,8 @@ use Rattle.s2ix_bag_lists.specs.Apply.{AreBefore}
 use Rattle.s2ix_bag_lists.proofs.Refusals.{is_mismatch, position_is, position_none}
 use Rattle.s2ix_bag_lists.specs.Faces.{AreEntriesBelow, AreFacesFrom, all_of, face_start}
 use Rattle.s2ix_bag_lists.proofs.AmongFaces.{all_is, all_put, count_on_face, changed_on_face, list_rises, own_is, put_apart, back_from, start_more}
-use Rattle.s2ix_bag_lists.proofs.Joined.{below_more, before_in_front, before_later, below_append, changed_below, changed_by_parts, none_between, rise_in_front}
+use Rattle.s2ix_bag_lists.proofs.Joined.{below_in_back, below_more, before_in_front, before_later, below_append, changed_below, changed_by_parts, none_between, rise_in_front}
+use Rattle.s2ix_bag_lists.proofs.Joins.{front_rises}
 
 -- ---- the last face
 
@@ -252,10 +253,6 @@ after_is [] i within = absurd (omega arith)
 after_is (l ∷ ls) zero within = refl
 after_is (l ∷ ls) (suc i) within = after_is ls i (omega arith)
 
-below_after : (n : ℕ) (fs hs : Collection) → AreBelow n (fs ++ hs) → AreBelow n hs
-below_after n [] hs below = below
-below_after n (f ∷ fs) hs below = below_after n fs hs below.1
-
 -- if all that is held is below a face, it is all before that face's list
 all_in_front : (ls : List Collection) (face : ℕ) → face < length ls → AreFacesFrom 0 ls → AreBelow (face_start face) (all_of ls)
     → all_of ls ≡ all_of (take face ls)
@@ -263,15 +260,11 @@ all_in_front ls face within apart below =
     let front = all_of (take face ls) in
     let after = get_or ls face [] ++ all_of (drop (suc face) ls) in
     let is = all_is ls face within in
-    let later = below_after (face_start face) front after (subst (λ (xs : Collection). AreBelow (face_start face) xs) is below) in
+    let later = below_in_back (face_start face) front after (subst (λ (xs : Collection). AreBelow (face_start face) xs) is below) in
     let rises =
     subst (λ (xs : Collection). IsCollectionFrom (face_start face) xs) (after_is ls face within)
     (back_from 0 face face ls (omega arith) apart) in
     is ∙ ap (λ xs. front ++ xs) (none_between (face_start face) after rises later) ∙ append-nil front
-
-rises_in_front : (n : ℕ) (hs ks : Collection) → IsCollectionFrom n (hs ++ ks) → IsCollectionFrom n hs
-rises_in_front n [] ks all_is = tt
-rises_in_front n (h ∷ hs) ks all_is = (all_is.0, all_is.1, rises_in_front (rank_of h.pair + 1) hs ks all_is.2)
 
 pub putting_step : (hs : Collection) (face : ℕ) (ls : List Collection) (rest : Collection) (k : ℕ) → face < 6 → Putting hs face ls rest
     → AreBelow (face_start (face + 1)) (take k rest) → IsCollectionFrom (face_start (face + 1)) (drop k rest)
@@ -281,16 +274,16 @@ putting_step hs face ls rest k within was below later =
     let short : face < length ls = omega (arith, was.six, within) in
     let split = take-append-drop k rest in
     let own_rises =
-    rises_in_front (face_start face) own (drop k rest)
+    front_rises (face_start face) own (drop k rest)
     (subst (λ (xs : Collection). IsCollectionFrom (face_start face) xs) (sym split) was.rises) in
     let apart = put_apart 0 face face ls own (omega arith) was.apart (own_rises, below) in
     let front = all_in_front ls face short was.apart was.below in
     let ends : all_of (drop (suc face) ls) ≡ [] =
     none_between (face_start (face + 1)) (all_of (drop (suc face) ls)) (back_from 0 (suc face) (face + 1) ls (omega arith) was.apart)
-    (below_after (face_start (face + 1)) (get_or ls face []) (all_of (drop (suc face) ls))
+    (below_in_back (face_start (face + 1)) (get_or ls face []) (all_of (drop (suc face) ls))
     (below_more (face_start face) (face_start (face + 1)) (get_or ls face [] ++ all_of (drop (suc face) ls))
     (start_more face (face + 1) (omega arith))
-    (below_after (face_start face) (all_of (take face ls)) (get_or ls face [] ++ all_of (drop (suc face) ls))
+    (below_in_back (face_start face) (all_of (take face ls)) (get_or ls face [] ++ all_of (drop (suc face) ls))
     (subst (λ (xs : Collection). AreBelow (face_start face) xs) (all_is ls face short) was.below)))) in
     let all : all_of (set ls face own) ≡ all_of ls ++ own =
     all_put ls face own short

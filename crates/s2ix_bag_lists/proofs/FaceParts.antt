@@ -18,11 +18,6 @@ get_set [] i new within = absurd (omega arith)
 get_set (l ∷ ls) zero new within = refl
 get_set (l ∷ ls) (suc i) new within = get_set ls i new (omega arith)
 
-long_set : (ls : List Collection) (i : ℕ) (new : Collection) → length (set ls i new) ≡ length ls
-long_set [] i new = refl
-long_set (l ∷ ls) zero new = refl
-long_set (l ∷ ls) (suc i) new = ap (λ (n : ℕ). suc n) (long_set ls i new)
-
 -- a face holds no more after a change than all do
 pub own_few : (first : Collection) (es : List Entry) (face : ℕ) (ls : List Collection) (rest : List Entry) (k : ℕ) → face < 6
     → Changing first es face ls rest → AreEntriesBelow (face_start (face + 1)) (take k rest)

@@ -7,7 +7,7 @@ use Rattle.s2ix_bag_pairs.specs.Pair.{rank_of}
 use Rattle.s2ix_bag_pairs.specs.declared.pair.Pair.{Pair}
 use Rattle.s2ix_bag_pairs.specs.declared.pair.Entry.{Entry}
 use Rattle.s2ix_bag_pairs.proofs.Counts.{count_head, count_tail, count_below, from_lower, set_before, set_at, set_after}
-use Rattle.s2ix_bag_pairs.proofs.Changes.{changed-append}
+use Rattle.s2ix_bag_pairs.proofs.Changes.{changed-append, set_in_front}
 use Rattle.s2ix_bag_lists.specs.Faces.{AreEntriesBelow}
 use Rattle.s2ix_bag_lists.specs.Apply.{AreBefore}
 use Rattle.s2ix_bag_lists.proofs.Applied.{before_rest}
@@ -22,6 +22,10 @@ below_more m n (h ∷ hs) le below = (omega (arith, le, below.0), below_more m n
 pub below_append : (n : ℕ) (hs ks : Collection) → AreBelow n hs → AreBelow n ks → AreBelow n (hs ++ ks)
 below_append n [] ks hs_below ks_below = ks_below
 below_append n (h ∷ hs) ks hs_below ks_below = (hs_below.0, below_append n hs ks hs_below.1 ks_below)
+
+pub below_in_back : (n : ℕ) (fs hs : Collection) → AreBelow n (fs ++ hs) → AreBelow n hs
+below_in_back n [] hs below = below
+below_in_back n (f ∷ fs) hs below = below_in_back n fs hs below.1
 
 pub from_append : (m n : ℕ) (hs ks : Collection) → m ≤ n → IsCollectionFrom m hs → AreBelow n hs → IsCollectionFrom n ks
     → IsCollectionFrom m (hs ++ ks)
@@ -54,10 +58,6 @@ count_back n k (h ∷ hs) bs bs_is lt =
 append_held : (p : Pair) (c : ℕ) (hs bs : Collection) → held_with p c hs ++ bs ≡ held_with p c [] ++ (hs ++ bs)
 append_held p zero hs bs = refl
 append_held p (suc c) hs bs = refl
-
-set_in_front : (p : Pair) (c n : ℕ) (bs : Collection) → rank_of p < n → IsCollectionFrom n bs → set_count p c bs ≡ held_with p c bs
-set_in_front p c n [] lt bs_is = refl
-set_in_front p c n (b ∷ bs) lt bs_is = set_before p c b bs (omega (arith, lt, bs_is.0))
 
 set_back : (p : Pair) (c n : ℕ) (hs bs : Collection) → rank_of p < n → IsCollectionFrom n bs
     → set_count p c (hs ++ bs) ≡ set_count p c hs ++ bs

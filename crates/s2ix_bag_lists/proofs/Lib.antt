@@ -17,6 +17,5 @@ pub mod Cuts
 pub mod Running
 pub mod Places
 pub mod Making
-pub mod OfParts
 pub mod Mismatches
 pub mod FaceParts

@@ -1,5 +1,5 @@
 -- A change, part by part.
-use Rattle.std.proofs.Common.{◌≡◌, ℕ, suc, ◌+◌, ◌<◌, ◌≤◌, List, [], ◌∷◌, ◌++◌, take, drop, get_or, length, slice_get, Some, refl, ⊎_elim, sym, ap, ap₂, ◌∙◌, subst, arith, append_assoc}
+use Rattle.std.proofs.Common.{◌≡◌, ℕ, suc, ◌+◌, ◌<◌, ◌≤◌, List, [], ◌∷◌, ◌++◌, take, drop, get_or, length, slice_get, Some, ⊎_elim, sym, ap, ap₂, ◌∙◌, subst, arith, append_assoc}
 use Rattle.std.proofs.lemmas.Bool.{cases_lt}
 use Rattle.std.proofs.lemmas.List.{take-append-drop, length-drop}
 use Rattle.s2ix_bag_pairs.specs.Collection.{Collection, IsCollection, IsCollectionFrom, AreBelow}
@@ -12,6 +12,7 @@ use Rattle.s2ix_bag_lists.specs.Faces.{all_of}
 use Rattle.s2ix_bag_lists.specs.Parts.{AreFilled, AreEntriesUpTo}
 use Rattle.s2ix_bag_lists.proofs.AmongFaces.{all_is}
 use Rattle.s2ix_bag_lists.proofs.FaceByFace.{IsOwnChange}
+use Rattle.s2ix_bag_lists.proofs.Joined.{before_in_front, rise_in_front}
 use Rattle.s2ix_bag_lists.proofs.Joins.{back_rises, filled_drop}
 use Rattle.s2ix_bag_lists.proofs.Places.{part_rises}
 use Rattle.s2ix_bag_lists.proofs.Cuts.{changed_apart, before_front, before_behind, before_in_back, part_below}
@@ -35,31 +36,11 @@ pub record IsNext (ahead : List Collection) (rest : List Entry) (rank place own 
   pub within_limit : own ≤ length rest
   pub last : place + 1 ≡ length ahead → own ≡ length rest
 
-pub entries_rise_in_front : (n : ℕ) (es fs : List Entry) → IsChangeListFrom n (es ++ fs) → IsChangeListFrom n es
-entries_rise_in_front n [] fs rises = tt
-entries_rise_in_front n (e ∷ es) fs rises = (rises.0, rises.1, entries_rise_in_front (rank_of e.pair + 1) es fs rises.2)
-
-before_in_front : (hs : Collection) (es fs : List Entry) → AreBefore hs (es ++ fs) → AreBefore hs es
-before_in_front hs [] fs befores = tt
-before_in_front hs (e ∷ es) fs befores = (befores.0, before_in_front hs es fs befores.1)
-
 pub begins_from : (es : List Entry) (e : Entry) → IsChangeList es → slice_get es 0 ≡ Some e → IsChangeListFrom (rank_of e.pair) es
 begins_from [] e rises is = cc
 begins_from (x ∷ xs) e rises is =
     let same : x ≡ e = cc in
     subst (λ (y : Entry). IsChangeListFrom (rank_of y.pair) (x ∷ xs)) same (omega arith, rises.1, rises.2)
-
-pub making_start : (ps : List Collection) (es : List Entry) → IsCollection (all_of ps) → AreFilled ps → 0 < length ps → IsChangeList es
-    → AreBefore (all_of ps) es → Making (all_of ps) es [] ps es
-making_start ps es rises filled some entries_rise before = record {
-  rises = rises;
-  filled = filled;
-  out_filled = tt;
-  entries_rise = entries_rise;
-  before = before;
-  made = refl;
-  some = λ _. some;
-}
 
 pub later_all : (ps : List Collection) (i : ℕ) → all_of (drop (i + 1) ps) ≡ all_of (drop (suc i) ps)
 later_all ps i = let more : i + 1 ≡ suc i = omega arith in ap (λ (k : ℕ). all_of (drop k ps)) more
@@ -82,7 +63,7 @@ making_own all es out ahead rest rank i k was next =
     (subst (λ (xs : List Entry). AreBefore (get_or ahead i [] ++ all_of (drop (suc i) ahead)) xs) split there) in
     record {
       held_rise = part_rises ahead i next.within was.rises;
-      entries_rise = entries_rise_in_front 0 (take k rest) (drop k rest)
+      entries_rise = rise_in_front 0 (take k rest) (drop k rest)
           (subst (λ (xs : List Entry). IsChangeList xs) split was.entries_rise);
       before = before_front next.cut.rank (get_or ahead i []) (all_of (drop (suc i) ahead)) (take k rest) later next.cut.entries own;
     }
@@ -133,8 +114,3 @@ making_step all es out ahead new rest rank i k was next filled is =
           ∙ was.made;
       some = λ some. more_ahead ahead rest rank i k next some;
     }
-
-pub making_end : (all : Collection) (es : List Entry) (out ahead : List Collection) (rest : List Entry) → Making all es out ahead rest
-    → length rest ≡ 0 → all_of out ++ all_of ahead ≡ changed all es
-making_end all es out ahead [] was none = was.made
-making_end all es out ahead (e ∷ rest) was none = absurd (omega arith)

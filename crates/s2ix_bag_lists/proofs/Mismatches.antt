@@ -12,9 +12,9 @@ use Rattle.s2ix_bag_lists.specs.Parts.{AreFilled}
 use Rattle.s2ix_bag_lists.proofs.AmongFaces.{all_is}
 use Rattle.s2ix_bag_lists.proofs.Cuts.{part_below}
 use Rattle.s2ix_bag_lists.proofs.FaceByFace.{position_after, position_inside, position_found, position_absent}
-use Rattle.s2ix_bag_lists.proofs.Joined.{count_front, count_back}
+use Rattle.s2ix_bag_lists.proofs.Joined.{count_front, count_back, rise_in_front}
 use Rattle.s2ix_bag_lists.proofs.Joins.{back_rises, filled_drop}
-use Rattle.s2ix_bag_lists.proofs.Making.{IsNext, entries_rise_in_front, later_all, more_ahead}
+use Rattle.s2ix_bag_lists.proofs.Making.{IsNext, later_all, more_ahead}
 use Rattle.s2ix_bag_lists.proofs.Places.{part_rises}
 use Rattle.s2ix_bag_lists.proofs.Refusals.{is_mismatch, position_is}
 
@@ -59,7 +59,7 @@ pub compared_own : (all : Collection) (es : List Entry) (ahead : List Collection
     → Compared all es ahead rest passed → IsNext ahead rest rank i k → IsOwn (get_or ahead i []) (take k rest)
 compared_own all es ahead rest passed rank i k was next = record {
   held_rise = part_rises ahead i next.within was.rises;
-  entries_rise = entries_rise_in_front 0 (take k rest) (drop k rest)
+  entries_rise = rise_in_front 0 (take k rest) (drop k rest)
       (subst (λ (xs : List Entry). IsChangeList xs) (sym (take-append-drop k rest)) was.entries_rise);
 }
 

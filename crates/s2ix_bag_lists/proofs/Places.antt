@@ -1,9 +1,8 @@
 -- A place in what parts make up, and the count of a pair.
-use Rattle.std.proofs.Common.{◌≡◌, ℕ, zero, suc, ◌+◌, ◌-◌, ◌<◌, ◌≤◌, List, [], ◌∷◌, ◌++◌, take, drop, get_or, length, slice_get, Some, refl, sym, ap, ◌∙◌, subst, ⊎_elim, arith, length-append}
+use Rattle.std.proofs.Common.{◌≡◌, ℕ, suc, ◌+◌, ◌<◌, ◌≤◌, List, [], ◌++◌, take, drop, get_or, length, sym, ap, ◌∙◌, subst, ⊎_elim, arith, length-append}
 use Rattle.std.proofs.lemmas.Bool.{cases_lt}
 use Rattle.std.proofs.lemmas.List.{drop_all, take_more}
 use Rattle.s2ix_bag_pairs.specs.Collection.{Collection, IsCollection, IsCollectionFrom, AreBelow, count_at}
-use Rattle.s2ix_bag_pairs.specs.declared.pair.Held.{Held}
 use Rattle.s2ix_bag_lists.specs.Faces.{all_of}
 use Rattle.s2ix_bag_lists.proofs.AmongFaces.{all_is}
 use Rattle.s2ix_bag_lists.proofs.Joined.{count_front, count_back}
@@ -11,25 +10,6 @@ use Rattle.s2ix_bag_lists.specs.Parts.{starts_from, IsPartAt}
 use Rattle.s2ix_bag_lists.proofs.Joins.{all_push, front_rises, back_rises}
 use Rattle.s2ix_bag_lists.proofs.FaceAt.{take_front, drop_front}
 use Rattle.s2ix_bag_lists.proofs.Running.{length-starts, get-starts}
-
-pub get_front : (fs hs : Collection) (k : ℕ) → k < length fs → slice_get (fs ++ hs) k ≡ slice_get fs k
-get_front [] hs k lt = absurd (omega arith)
-get_front (f ∷ fs) hs zero lt = refl
-get_front (f ∷ fs) hs (suc k) lt = get_front fs hs k (omega arith)
-
-pub get_behind : (fs hs : Collection) (k n : ℕ) → k ≡ length fs + n → slice_get (fs ++ hs) k ≡ slice_get hs n
-get_behind [] hs k n is = let same : k ≡ n = omega arith in ap (λ (i : ℕ). slice_get hs i) same
-get_behind (f ∷ fs) hs zero n is = absurd (omega arith)
-get_behind (f ∷ fs) hs (suc k) n is = get_behind fs hs k n (omega arith)
-
-pub read_is : (hs : Collection) (k : ℕ) (h : Held) → k < length hs → h ≡ get_or hs k h → slice_get hs k ≡ Some h
-read_is [] k h within is = absurd (omega arith)
-read_is (x ∷ xs) zero h within is = ap (λ (y : Held). Some y) (sym is)
-read_is (x ∷ xs) (suc k) h within is = read_is xs k h (omega arith) is
-
-pub some_part : (ps : List Collection) → 0 < length (all_of ps) → 0 < length ps
-some_part [] some = absurd (omega arith)
-some_part (p ∷ ps) some = omega arith
 
 -- where each part starts
 pub starts_is : (starts : List ℕ) (ps : List Collection) (i : ℕ) → starts ≡ starts_from 0 ps → i < length ps
@@ -79,16 +59,6 @@ in_part starts ps place i counted lt within begins ends =
           omega (arith, whole, empty))
           (cases_lt (i + 1) (length ps));
     }
-
-pub get_in_part : (ps : List Collection) (place i : ℕ) → IsInPart ps place i
-    → slice_get (all_of ps) place ≡ slice_get (get_or ps i []) (place - length (all_of (take i ps)))
-get_in_part ps place i is =
-    let front = all_of (take i ps) in
-    let own = get_or ps i [] in
-    let back = all_of (drop (suc i) ps) in
-    ap (λ (x : Collection). slice_get x place) (all_is ps i is.within)
-    ∙ get_behind front (own ++ back) place (place - length front) (omega (arith, is.begins))
-    ∙ get_front own back (place - length front) (omega (arith, is.begins, is.ends))
 
 -- ---- one part among the others
 

@@ -1,6 +1,5 @@
 -- A search among parts by their first pairs.
 use Rattle.std.proofs.Common.{◌≡◌, ℕ, zero, suc, ◌+◌, ◌<◌, ◌≤◌, List, [], ◌∷◌, ◌++◌, take, drop, get_or, length, slice_get, Some, sym, ap, ◌∙◌, subst, arith}
-use Rattle.std.proofs.lemmas.List.{drop_all}
 use Rattle.s2ix_bag_pairs.specs.Collection.{Collection, IsCollection, IsCollectionFrom, AreBelow}
 use Rattle.s2ix_bag_pairs.specs.Pair.{rank_of}
 use Rattle.s2ix_bag_pairs.specs.declared.pair.Held.{Held}
@@ -23,16 +22,6 @@ pub record Narrowed (ps : List Collection) (rank low high : ℕ) : Type 0 where
   pub within : high ≤ length ps
   pub below : AreBelow rank (all_of (take low ps))
   pub rest : IsCollectionFrom (rank + 1) (all_of (drop high ps))
-
-pub narrowed_start : (ps : List Collection) (rank high : ℕ) → 0 < length ps → high ≡ length ps → Narrowed ps rank 0 high
-narrowed_start ps rank high some is =
-    let none : drop high ps ≡ [] = drop_all high ps (omega arith) in
-    record {
-      some = omega arith;
-      within = omega arith;
-      below = tt;
-      rest = subst (λ (x : List Collection). IsCollectionFrom (rank + 1) (all_of x)) (sym none) tt;
-    }
 
 pub narrowed_low : (ps : List Collection) (rank low high middle : ℕ) (h : Held) → IsCollection (all_of ps) → Narrowed ps rank low high
     → middle < high → slice_get (get_or ps middle []) 0 ≡ Some h → rank_of h.pair ≤ rank → Narrowed ps rank middle high

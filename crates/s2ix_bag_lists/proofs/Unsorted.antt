@@ -20,7 +20,7 @@ rank_past (Some p) = rank_of p + 1
 abbrev pub RiseSoFar : List Entry → ℕ → Option Pair → Type 0
 RiseSoFar es k last = first_unsorted_from 0 0 es ≡ first_unsorted_from k (rank_past last) (drop k es)
 
-split_at : (es : List Entry) (k : ℕ) (e : Entry) → k < length es → e ≡ get_or es k e → drop k es ≡ e ∷ drop (k + 1) es
+pub split_at : (es : List Entry) (k : ℕ) (e : Entry) → k < length es → e ≡ get_or es k e → drop k es ≡ e ∷ drop (k + 1) es
 split_at es k e within is = drop_more es k e within ∙ ap (λ x. x ∷ drop (k + 1) es) (sym is)
 
 pub rise_more : (es : List Entry) (k : ℕ) (last : Option Pair) (e : Entry) → k < length es → e ≡ get_or es k e → RiseSoFar es k last

@@ -172,12 +172,14 @@ pub changed_at : (h : Held) (hs : Collection) (e : Entry) (es : List Entry) → 
 changed_at h hs e es same es_is =
     ap (λ x. changed x es) (set_at e.pair e.after h hs same) ∙ changed-held_with e.pair e.after hs es es_is
 
-set_absent : (p : Pair) (n : ℕ) (hs : Collection) → IsCollectionFrom (rank_of p + 1) hs → set_count p n hs ≡ held_with p n hs
-set_absent p n [] c = refl
-set_absent p n (h ∷ hs) c = set_before p n h hs (omega (arith, c.0))
+-- a pair before all that are held
+pub set_in_front : (p : Pair) (n rank : ℕ) (hs : Collection) → rank_of p < rank → IsCollectionFrom rank hs
+    → set_count p n hs ≡ held_with p n hs
+set_in_front p n rank [] lt hs_is = refl
+set_in_front p n rank (h ∷ hs) lt hs_is = set_before p n h hs (omega (arith, lt, hs_is.0))
 
 -- the first entry, at a pair that is not held
 pub changed_absent : (hs : Collection) (e : Entry) (es : List Entry) → IsCollectionFrom (rank_of e.pair + 1) hs
     → IsChangeListFrom (rank_of e.pair + 1) es → changed hs (e ∷ es) ≡ held_with e.pair e.after (changed hs es)
 changed_absent hs e es hs_is es_is =
-    ap (λ x. changed x es) (set_absent e.pair e.after hs hs_is) ∙ changed-held_with e.pair e.after hs es es_is
+    ap (λ x. changed x es) (set_in_front e.pair e.after (rank_of e.pair + 1) hs (omega arith) hs_is) ∙ changed-held_with e.pair e.after hs es es_is

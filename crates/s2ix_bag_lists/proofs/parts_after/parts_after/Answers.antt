@@ -17,8 +17,8 @@ add_all-requires-clause-some c =
     subst (λ (x : List Collection). AreFilled x) (sym c.split_at.ensures.front)
     (filled_take c.part_of-place.result c.loop-first.ahead.now c.loop-first.invariant.filled)
 
-pub add_changed-requires-clause-held_rise : goal.add_changed-requires-clause-held_rise
-add_changed-requires-clause-held_rise c =
+pub add_changed-requires : goal.add_changed-requires
+add_changed-requires c =
     let all = all_of c.args.parts.now in
     let es = c.args.entries.now in
     let out = c.loop-first.after.items in
@@ -40,57 +40,12 @@ add_changed-requires-clause-held_rise c =
     let part = c.index-ahead-place.is ∙ get_or_default ahead i c.index-ahead-place.result [] next.within in
     let own = making_own all es out ahead rest rank i k was next in
     let is = subst₂ IsOwnChange (sym part) (sym c.split_at-in-Some.ensures.front) own in
-    is.held_rise
-
-pub add_changed-requires-clause-entries_rise : goal.add_changed-requires-clause-entries_rise
-add_changed-requires-clause-entries_rise c =
-    let all = all_of c.args.parts.now in
-    let es = c.args.entries.now in
-    let out = c.loop-first.after.items in
-    let ahead = c.loop-first.ahead.now in
-    let rest = c.loop-first.rest.now in
-    let i = c.part_of-place.result in
-    let k = c.entries_up_to_part.result in
-    let e = c.in-Some.first.now in
-    let rank = rank_of e.pair in
-    let was = c.loop-first.invariant in
-    let next : IsNext ahead rest rank i k = record {
-      within = c.part_of-place.ensures.within;
-      below = c.part_of-place.ensures.below;
-      from = begins_from rest e was.entries_rise (sym c.in-Some.ensures.value);
-      cut = c.entries_up_to_part.ensures.cut;
-      within_limit = c.entries_up_to_part.ensures.within;
-      last = c.entries_up_to_part.ensures.last;
-    } in
-    let part = c.index-ahead-place.is ∙ get_or_default ahead i c.index-ahead-place.result [] next.within in
-    let own = making_own all es out ahead rest rank i k was next in
-    let is = subst₂ IsOwnChange (sym part) (sym c.split_at-in-Some.ensures.front) own in
-    is.entries_rise
-
-pub add_changed-requires-clause-before : goal.add_changed-requires-clause-before
-add_changed-requires-clause-before c =
-    let all = all_of c.args.parts.now in
-    let es = c.args.entries.now in
-    let out = c.loop-first.after.items in
-    let ahead = c.loop-first.ahead.now in
-    let rest = c.loop-first.rest.now in
-    let i = c.part_of-place.result in
-    let k = c.entries_up_to_part.result in
-    let e = c.in-Some.first.now in
-    let rank = rank_of e.pair in
-    let was = c.loop-first.invariant in
-    let next : IsNext ahead rest rank i k = record {
-      within = c.part_of-place.ensures.within;
-      below = c.part_of-place.ensures.below;
-      from = begins_from rest e was.entries_rise (sym c.in-Some.ensures.value);
-      cut = c.entries_up_to_part.ensures.cut;
-      within_limit = c.entries_up_to_part.ensures.within;
-      last = c.entries_up_to_part.ensures.last;
-    } in
-    let part = c.index-ahead-place.is ∙ get_or_default ahead i c.index-ahead-place.result [] next.within in
-    let own = making_own all es out ahead rest rank i k was next in
-    let is = subst₂ IsOwnChange (sym part) (sym c.split_at-in-Some.ensures.front) own in
-    is.before
+    record {
+      filled = c.in_ok-add_all.ensures.filled;
+      held_rise = is.held_rise;
+      entries_rise = is.entries_rise;
+      before = is.before;
+    }
 
 pub loop-first-preserved : goal.loop-first-preserved
 loop-first-preserved c =

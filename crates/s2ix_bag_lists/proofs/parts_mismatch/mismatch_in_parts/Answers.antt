@@ -11,8 +11,8 @@ use Rattle.s2ix_bag_lists.proofs.Mismatches.{Compared, compared_found, compared_
 use Rattle.s2ix_bag_lists.proofs.Refusals.{is_mismatch}
 use Rattle.s2ix_bag_lists.proofs.parts_mismatch.mismatch_in_parts.Goals as goal
 
-pub first_mismatch-requires-clause-held_rise : goal.first_mismatch-requires-clause-held_rise
-first_mismatch-requires-clause-held_rise c =
+pub first_mismatch-requires : goal.first_mismatch-requires
+first_mismatch-requires c =
     let ahead = c.loop-first.ahead.now in
     let rest = c.loop-first.rest.now in
     let i = c.part_of-part.result in
@@ -31,29 +31,11 @@ first_mismatch-requires-clause-held_rise c =
     let es = c.args.entries.now in
     let passed = c.loop-first.passed in
     let part = c.as_slice.ensures ∙ c.index-ahead-part.is ∙ get_or_default ahead i c.index-ahead-part.result [] next.within in
-    subst (λ (hs : Collection). IsCollection hs) (sym part) (compared_own all es ahead rest passed rank i k was next).held_rise
-
-pub first_mismatch-requires-clause-entries_rise : goal.first_mismatch-requires-clause-entries_rise
-first_mismatch-requires-clause-entries_rise c =
-    let ahead = c.loop-first.ahead.now in
-    let rest = c.loop-first.rest.now in
-    let i = c.part_of-part.result in
-    let k = c.entries_up_to_part.result in
-    let was = c.loop-first.invariant.1 in
-    let next : IsNext ahead rest (rank_of c.in-Some.first.now.pair) i k = record {
-      within = c.part_of-part.ensures.within;
-      below = c.part_of-part.ensures.below;
-      from = begins_from rest c.in-Some.first.now was.entries_rise (sym c.in-Some.ensures.value);
-      cut = c.entries_up_to_part.ensures.cut;
-      within_limit = c.entries_up_to_part.ensures.within;
-      last = c.entries_up_to_part.ensures.last;
-    } in
-    let rank = rank_of c.in-Some.first.now.pair in
-    let all = all_of c.args.parts.now in
-    let es = c.args.entries.now in
-    let passed = c.loop-first.passed in
-    subst (λ (xs : List Entry). IsChangeList xs) (sym c.split_at.ensures.front)
-    (compared_own all es ahead rest passed rank i k was next).entries_rise
+    let own = compared_own all es ahead rest passed rank i k was next in
+    record {
+      held_rise = subst (λ (hs : Collection). IsCollection hs) (sym part) own.held_rise;
+      entries_rise = subst (λ (xs : List Entry). IsChangeList xs) (sym c.split_at.ensures.front) own.entries_rise;
+    }
 
 pub returns-in-Some-first_mismatch : goal.returns-in-Some-first_mismatch
 returns-in-Some-first_mismatch c =
