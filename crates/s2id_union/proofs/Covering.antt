@@ -10,7 +10,7 @@ use Rattle.std.proofs.lemmas.List.Elements.{Contains-append_left, Contains-push,
 use Rattle.s2id_union.specs.Region.{InRegion}
 use Rattle.s2id_union.specs.Covers.{Covers}
 use Rattle.s2id_union.specs.Loops.{InSpan}
-use Rattle.s2id_core.proofs.Lists.{none_in_nil}
+use Rattle.s2id_core.proofs.Lists.{in_tail, none_in_nil}
 
 pub region_from_covers : (cells : List CellId) (l : Path) → IsLeafPath l → Covers cells (number_of l) → InRegion cells l
 region_from_covers cells l deep h =
@@ -35,6 +35,9 @@ pub covers_nil : (q : ℕ) → Covers [] q → ⊥
 covers_nil q h = none_in_nil h.cell h.held
 
 -- one more cell
+pub covers_tail : (c : CellId) (cells : List CellId) (q : ℕ) → Covers cells q → Covers (c ∷ cells) q
+covers_tail c cells q h = record { cell = h.cell; held = in_tail c cells h.cell h.held; from = h.from; to = h.to }
+
 pub covers_push_left : (cells : List CellId) (c : CellId) (q : ℕ) → Covers cells q → Covers (cells ++ c ∷ []) q
 covers_push_left cells c q h =
     record { cell = h.cell; held = Contains-append_left cells (c ∷ []) h.cell h.held; from = h.from; to = h.to }

@@ -12,6 +12,6 @@ pub mod NormalForm
 mod Forms
 mod Joining
 mod Counting
-mod Equal
+pub mod Equal
 mod Shortest
 mod FewCells

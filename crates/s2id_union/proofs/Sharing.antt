@@ -9,13 +9,13 @@ use Rattle.s2id_core.specs.CellId.{raw_of, level_of, first_of, end_of}
 use Rattle.s2id_core.specs.Cell.{IsCellNumber}
 use Rattle.s2id_core.specs.Path.{path_at, number_of}
 use Rattle.s2id_core.specs.Span.{first_at, end_at, leaf_end, IsNested}
-use Rattle.s2id_core.proofs.Lists.{head_pairs, cons_cases, in_tail, at_head, none_in_nil}
+use Rattle.s2id_core.proofs.Lists.{head_pairs, cons_cases, at_head}
 use Rattle.s2id_core.proofs.Nested.{span, same_span, span_from_leaf, nested_by_level, nested_from_within, within_from_nested}
 use Rattle.s2id_core.proofs.Numbers.{path_of_cell}
 use Rattle.s2id_union.specs.Covers.{Covers, FollowOneAnother}
 use Rattle.s2id_union.specs.Loops.{InSpan, IsShared, AreShared}
 use Rattle.s2id_union.specs.Region.{IsNormal}
-use Rattle.s2id_union.proofs.Covering.{region_from_covers, covers_push_left, covers_push_right, covers_push_cases}
+use Rattle.s2id_union.proofs.Covering.{region_from_covers, covers_tail, covers_push_left, covers_push_right, covers_push_cases}
 use Rattle.s2id_union.proofs.Normal.{normal_from_maximal}
 use Rattle.s2id_union.proofs.Searching.{follow_from_normal}
 use Rattle.s2id_union.proofs.Unique.{around_from_all}
@@ -38,9 +38,6 @@ covers_cases x xs q h =
 
 covers_head : (x : CellId) (xs : List CellId) (q : ℕ) → InCell x q → Covers (x ∷ xs) q
 covers_head x xs q h = record { cell = x; held = at_head x xs; from = h.from; to = h.to }
-
-covers_tail : (x : CellId) (xs : List CellId) (q : ℕ) → Covers xs q → Covers (x ∷ xs) q
-covers_tail x xs q h = record { cell = h.cell; held = in_tail x xs h.cell h.held; from = h.from; to = h.to }
 
 after : (x : CellId) (xs : List CellId) → FollowOneAnother (x ∷ xs) → (q : ℕ) → Covers xs q → end_of x ≤ q
 after x xs follow q h =
@@ -103,14 +100,6 @@ pub record IsSharing (xs ys left_x left_y cells : List CellId) : Type 0 where
   pub of : (c : CellId) → Contains cells c → Contains xs c ⊎ Contains ys c
   pub below : (c : CellId) → Contains cells c → (q : ℕ) → Covers left_x q → Covers left_y q → end_of c ≤ q
   pub covers : (q : ℕ) → (Covers cells q ⊎ (Covers left_x q × Covers left_y q)) ↔ (Covers xs q × Covers ys q)
-
-pub none_shared : (xs ys : List CellId) → IsSharing xs ys xs ys []
-none_shared xs ys = record {
-  follow = λ i j d lt within. absurd (omega arith);
-  of = λ c h. absurd (none_in_nil c h);
-  below = λ c h. absurd (none_in_nil c h);
-  covers = λ q. (λ v. elim v [ inl c ↦ absurd (none_in_nil c.cell c.held) | inr both ↦ both ], λ both. inr both);
-}
 
 -- the same if what the two first cells share is added, and neither is passed yet
 record IsJoined (xs ys : List CellId) (x y : CellId) (left_x left_y cells : List CellId) : Type 0 where

@@ -5,7 +5,8 @@ use Rattle.s2id_core.specs.declared.cell_id.CellId.{CellId}
 use Rattle.s2id_core.specs.CellId.{raw_of, first_of, end_of}
 use Rattle.s2id_core.proofs.Nested.{span}
 use Rattle.s2id_union.specs.Covers.{Covers}
-use Rattle.s2id_core.proofs.Lists.{cons_cases, in_tail, at_head, none_in_nil}
+use Rattle.s2id_union.proofs.Covering.{covers_tail}
+use Rattle.s2id_core.proofs.Lists.{cons_cases, at_head, none_in_nil}
 use Rattle.s2ix_table_walk.specs.Table.{leaf_end}
 use Rattle.s2ix_table_walk.specs.Meeting.{first_shared}
 
@@ -16,11 +17,8 @@ pub record IsSharedAt (target : List CellId) (cell : CellId) (q : ℕ) : Type 0 
   pub to : q < end_of cell
   pub odd : q % 2 ≡ 1
 
-covers_more : (t : CellId) (ts : List CellId) (q : ℕ) → Covers ts q → Covers (t ∷ ts) q
-covers_more t ts q v = record { cell = v.cell; held = in_tail t ts v.cell v.held; from = v.from; to = v.to }
-
 shared_more : (t : CellId) (ts : List CellId) (cell : CellId) (q : ℕ) → IsSharedAt ts cell q → IsSharedAt (t ∷ ts) cell q
-shared_more t ts cell q s = record { covered = covers_more t ts q s.covered; from = s.from; to = s.to; odd = s.odd }
+shared_more t ts cell q s = record { covered = covers_tail t ts q s.covered; from = s.from; to = s.to; odd = s.odd }
 
 shared_here : (t : CellId) (ts : List CellId) (cell : CellId) → first_of t < end_of cell → first_of cell < end_of t
     → first_shared (t ∷ ts) cell ≡ min (max (first_of t) (first_of cell)) (first_shared ts cell)

@@ -1,5 +1,5 @@
 -- The groups of ranges among which a search in a large table looks.
-use Rattle.std.proofs.Common.{◌≡◌, ℕ, suc, ◌+◌, ◌-◌, ◌*◌, ◌/◌, ◌<◌, ◌≤◌, ◌^◌, min, inl, inr, List, length, ap, sym, ◌∙◌, subst, arith}
+use Rattle.std.proofs.Common.{◌≡◌, ℕ, suc, ◌+◌, ◌-◌, ◌*◌, ◌/◌, ◌<◌, ◌≤◌, ◌^◌, inl, inr, List, length, ap, arith}
 use Rattle.std.proofs.Math.Nat.{pow-suc, one-le-pow}
 use Rattle.std.proofs.lemmas.Bool.{cases_lt}
 use Rattle.s2id_core.specs.BinaryDigits.{binary_digits}
@@ -7,7 +7,7 @@ use Rattle.s2id_core.proofs.BinaryDigits.{digits_above, digits_below, digits_ris
 use Rattle.s2ix_bag_pairs.specs.Collection.{Collection}
 use Rattle.s2ix_table_walk.specs.Table.{Range, range_at, IsRangeTable}
 use Rattle.s2ix_table_walk.specs.Searching.{AreGroups, IsWindow}
-use Rattle.s2ix_table_walk.proofs.WalkSteps.{range_fits, ranges_follow}
+use Rattle.s2ix_table_walk.proofs.WalkSteps.{ranges_follow}
 
 -- no range begins before an earlier one
 start_by : (hs : Collection) (ranges : List Range) (i j : ℕ) → IsRangeTable hs ranges → i ≤ j → j < length ranges
@@ -41,15 +41,6 @@ all_groups hs ranges leaf first size from groups t window by whole =
       limit = λ more. absurd (omega arith);
       stop = window.limit;
     }
-
--- the first range of the group in the middle is a range, and its place fits a word
-pub group_fits : (hs : Collection) (ranges : List Range) (leaf first end groups : ℕ) → IsRangeTable hs ranges
-    → AreGroups ranges leaf first end groups → 1 < groups
-    → (first + groups / 2 * 16 < length ranges) × (first + groups / 2 * 16 + 1 < 2 ^ 64)
-group_fits hs ranges leaf first end groups t are many =
-    let before = are.before in
-    let within = are.within in
-    (omega arith, range_fits hs ranges t (first + groups / 2 * 16) (omega arith))
 
 -- the groups from the middle on
 pub upper_groups : (ranges : List Range) (leaf first end groups : ℕ) → AreGroups ranges leaf first end groups → 1 < groups
@@ -85,24 +76,6 @@ lower_groups hs ranges leaf first end groups t are many after =
           omega arith;
       stop = are.stop;
     }
-
--- the group that is left, or as much of it as is before the end
-pub group_left : (ranges : List Range) (leaf first end size : ℕ) → AreGroups ranges leaf first end 1 → size ≡ min 16 (end - first)
-    → IsWindow ranges leaf first size
-group_left ranges leaf first end size are is =
-    let before = are.before in
-    let within = are.within in
-    elim (cases_lt 16 (end - first)) [
-      | inl more ↦
-          (let e : first + size ≡ first + 1 * 16 = omega arith in
-          let f = ap (λ k. (range_at ranges k).start) e in
-          let l = are.limit (omega arith) in
-          record { some = omega arith; within = omega arith; start = are.start; limit = λ _. omega arith })
-      | inr rest ↦
-          (let e : first + size ≡ end = omega arith in
-          let f = ap (λ k. (range_at ranges k).start) e in
-          record { some = omega arith; within = omega arith; start = are.start; limit = λ more. let l = are.stop (omega arith) in omega arith })
-    ]
 
 -- groups of 16 take four probes more than their number does
 digits_of_groups : (n : ℕ) → 0 < n → binary_digits (n * 16 - 1) ≡ binary_digits (n - 1) + 4

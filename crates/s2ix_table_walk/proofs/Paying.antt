@@ -1,6 +1,6 @@
 -- What each step of a walk may read.
-use Rattle.std.proofs.Common.{◌≡◌, ℕ, ◌+◌, ◌*◌, ◌<◌, ◌≤◌, true, ◌&&◌, ltb, min, max, Option, Some, None, inl, inr, IfSome, List, [], ◌∷◌, length, drop, suc, ◌-◌, refl, sym, ◌∙◌, ap, subst, arith, Contains, lt-ltb, le-ltb}
-use Rattle.std.proofs.Math.Nat.{mul-le-mul_right, suc-mul}
+use Rattle.std.proofs.Common.{◌≡◌, ℕ, ◌+◌, ◌*◌, ◌<◌, ◌≤◌, true, ◌&&◌, ltb, min, max, Option, Some, None, inl, inr, IfSome, List, [], ◌∷◌, length, drop, ◌-◌, refl, sym, ◌∙◌, ap, subst, arith, Contains, lt-ltb, le-ltb}
+use Rattle.std.proofs.Math.Nat.{mul-le-mul_right}
 use Rattle.std.proofs.lemmas.Bool.{and_parts, and_from, and_right, ltb-true, cases_lt}
 use Rattle.std.proofs.lemmas.List.Elements.{Contains-get_or}
 use Rattle.std.proofs.lemmas.List.Sums.{count_by-le-length}
@@ -148,9 +148,6 @@ met_begun target r seen passed met =
 
 -- ---- steps
 
-times_more : (m d : ℕ) → (m + 1) * d ≡ m * d + d
-times_more m d = let e : m + 1 ≡ suc m = omega arith in ap (λ k. k * d) e ∙ suc-mul m d
-
 one_most : {X : Type 0} (o : Option X) → one_if_some o ≤ 1
 one_most None = omega arith
 one_most (Some x) = omega arith
@@ -179,8 +176,7 @@ step_pays shown target walk next x k calls old new p looks at_hand searched rise
         | inl lt ↦
             (let more = cells_gain target x walk.seen next.seen p.held (omega arith) (omega arith) in
             let times = mul-le-mul_right d more in
-            let one : (cells_begun target walk.seen + 1) * d ≡ cells_begun target walk.seen * d + d = times_more
-            (cells_begun target walk.seen) d in
+            let one : (cells_begun target walk.seen + 1) * d ≡ cells_begun target walk.seen * d + d = omega arith in
             omega arith)
         | inr ge ↦
             (let times = mul-le-mul_right d (cells_grow target walk.seen next.seen (omega arith)) in

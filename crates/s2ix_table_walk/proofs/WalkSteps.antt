@@ -201,13 +201,6 @@ after_range hs ranges t k i q within le found =
           ]
     ]
 
--- none begins before the first leaf
-pub fresh_first : (hs : Collection) (ranges : List Range) → IsRangeTable hs ranges → (k q : ℕ) → IsFound ranges k q
-    → 1 ≤ (range_at ranges k).start
-fresh_first hs ranges t k q found =
-    let odd = t.odd k found.within in
-    omega arith
-
 -- where a walk goes on after a range: at the next one, or where the cell ends before that
 abbrev pub GoesOn : ℕ → ℕ → ℕ → ℕ × ℕ → Type 0
 GoesOn range limit end to = ((limit ≤ end) × (to ≡ (range + 1, limit))) ⊎ ((end < limit) × (to ≡ (range, end)))
