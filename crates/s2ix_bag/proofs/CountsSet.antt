@@ -1,5 +1,5 @@
 -- Counts set beside a collection.
-use Rattle.std.proofs.Common.{◌≡◌, ◌≢◌, ℕ, ◌+◌, ◌<◌, ◌≤◌, cond, false, List, [], ◌∷◌, ◌++◌, drop, get_or, length, Option, Some, refl, sym, ap, ap₂, ◌∙◌, subst, ⊎_elim, arith, eq-eqb, ne_eqb, lt-ltb, le-ltb}
+use Rattle.std.proofs.Common.{◌≡◌, ℕ, ◌+◌, ◌<◌, ◌≤◌, cond, false, List, [], ◌∷◌, drop, get_or, length, Option, Some, refl, sym, ap, ap₂, ◌∙◌, subst, ⊎_elim, arith, eq-eqb, ne_eqb, lt-ltb, le-ltb}
 use Rattle.std.specs.BTreeMap.{BTreeMap, get, is_at}
 use Rattle.std.specs.List.Sorted.{IsStrictlySortedBy}
 use Rattle.std.specs.Map.{keys_of, lookup}
@@ -10,7 +10,7 @@ use Rattle.std.specs.declared.cmp.Ordering.TheVariants.{Less, Equal}
 use Rattle.std.proofs.lemmas.Bool.{cases_eq, cases_order, cond-true, cond-false}
 use Rattle.std.proofs.lemmas.Bool.Decides.{nat_tests}
 use Rattle.std.proofs.lemmas.Cmp.{ranked}
-use Rattle.std.proofs.lemmas.List.{drop_more, append_assoc}
+use Rattle.std.proofs.lemmas.List.{drop_more}
 use Rattle.std.proofs.lemmas.Map.Keys.{Less-from_sorted, sorted_tail}
 use Rattle.s2ix_bag_pairs.specs.Change.{IsChangeList, IsChangeListFrom, change_between, changed, counts_at, difference_of, entry_with}
 use Rattle.s2ix_bag_pairs.specs.Collection.{Collection, LimitedCollection, IsBag, IsCollection, count_at, count_in, set_count}
@@ -199,17 +199,6 @@ entries_between cmp order hs cs hs_is sorted =
     (λ p. counts_of_entries 0 hs cs (rank_of p) hs_is cs_rise)
 
 -- ---- their walk
-
-pub push_same : (hs : Collection) (out : List Entry) (c : Pair × ℕ) (cs : List (Pair × ℕ)) → count_in hs c.0 ≡ c.1
-    → out ++ entries_of hs (c ∷ cs) ≡ out ++ entries_of hs cs
-push_same hs out c cs same = ap (λ x. out ++ x) (entry_none c.0 (count_in hs c.0) c.1 (entries_of hs cs) same)
-
-pub push_other : (hs : Collection) (out : List Entry) (c : Pair × ℕ) (cs : List (Pair × ℕ)) → count_in hs c.0 ≢ c.1
-    → out ++ entries_of hs (c ∷ cs) ≡ (out ++ record { pair = c.0; before = count_in hs c.0; after = c.1 } ∷ []) ++ entries_of hs cs
-push_other hs out c cs ne =
-    let e : Entry = record { pair = c.0; before = count_in hs c.0; after = c.1 } in
-    ap (λ x. out ++ x) (entry_some c.0 (count_in hs c.0) c.1 (entries_of hs cs) ne)
-    ∙ sym (append_assoc out (e ∷ []) (entries_of hs cs))
 
 -- ---- the bag itself
 

@@ -13,44 +13,25 @@ use Rattle.s2ix_bag_lists.proofs.lists.FaceLists.after.Goals as goal
 pub entries_up_to-requires : goal.entries_up_to-requires
 entries_up_to-requires c = change_lower 0 (face_start c.loop-face.face) c.loop-face.rest.now (omega arith) c.loop-face.invariant.rises
 
-pub after-requires-clause-entries_rise : goal.after-requires-clause-entries_rise
-after-requires-clause-entries_rise c =
+pub after-requires : goal.after-requires
+after-requires c =
     let ls = c.loop-face.lists in
     let face = c.loop-face.face in
     let rest = c.loop-face.rest.now in
     let k = c.entries_up_to.result in
-    let short : face < length ls = omega (arith, c.loop-face.invariant.six) in
+    let was = c.loop-face.invariant in
+    let below = c.entries_up_to.ensures.below in
+    let short : face < length ls = omega (arith, was.six) in
     let held = sym (get_or_default ls face [] c.index-lists-face.result short) in
-    let own =
-    changing_own c.args.self.now c.args.entries.now face ls rest k (omega arith) c.loop-face.invariant c.entries_up_to.ensures.below in
+    let own = changing_own c.args.self.now c.args.entries.now face ls rest k (omega arith) was below in
     let is = subst₂ IsOwnChange (sym held) (sym c.split_at.ensures.front) own in
-    is.entries_rise
-
-pub after-requires-clause-before : goal.after-requires-clause-before
-after-requires-clause-before c =
-    let ls = c.loop-face.lists in
-    let face = c.loop-face.face in
-    let rest = c.loop-face.rest.now in
-    let k = c.entries_up_to.result in
-    let short : face < length ls = omega (arith, c.loop-face.invariant.six) in
-    let held = sym (get_or_default ls face [] c.index-lists-face.result short) in
-    let own =
-    changing_own c.args.self.now c.args.entries.now face ls rest k (omega arith) c.loop-face.invariant c.entries_up_to.ensures.below in
-    let is = subst₂ IsOwnChange (sym held) (sym c.split_at.ensures.front) own in
-    is.before
-
-pub after-requires-clause-within_limit : goal.after-requires-clause-within_limit
-after-requires-clause-within_limit c =
-    let ls = c.loop-face.lists in
-    let face = c.loop-face.face in
-    let rest = c.loop-face.rest.now in
-    let k = c.entries_up_to.result in
-    let short : face < length ls = omega (arith, c.loop-face.invariant.six) in
-    let held = sym (get_or_default ls face [] c.index-lists-face.result short) in
-    let within_limit = own_few c.args.self.now c.args.entries.now face ls rest k (omega arith) c.loop-face.invariant
-    c.entries_up_to.ensures.below c.entries_up_to.ensures.rest in
+    let few = own_few c.args.self.now c.args.entries.now face ls rest k (omega arith) was below c.entries_up_to.ensures.rest in
     let same = ap₂ (λ (hs : Collection) (es : List Entry). length (changed hs es)) held c.split_at.ensures.front in
-    omega (arith, within_limit, same, c.requires.within_limit)
+    record {
+      entries_rise = is.entries_rise;
+      before = is.before;
+      within_limit = omega (arith, few, same, c.requires.within_limit);
+    }
 
 pub loop-face-preserved : goal.loop-face-preserved
 loop-face-preserved c =
