@@ -46,9 +46,9 @@ impl Bag {
         }
     }
 
-    /// The bag that holds no pair. As it grows, it is cut into parts of at most `max_part_len` pairs each, but at least one; other bags have
-    /// parts of at most 512. It does not allocate.
-    pub fn in_parts_of(_alloc: Global, limits: Limits, max_part_len: usize) -> Bag
+    /// For tests, which need many parts of few pairs: the bag that holds no pair, and that is cut into parts of at most `max_part_len` pairs
+    /// each, but at least one, as it grows. Other bags have parts of at most 512. It does not allocate.
+    pub fn in_parts_of(limits: Limits, max_part_len: usize) -> Bag
         ensures { result ≡ record { limits = limits; held = [] } }
     {
         let lists = FaceLists::in_parts_of(max_part_len);

@@ -38,7 +38,7 @@ fn bag_of_stretches(alloc: Global) -> Option<Bag> {
         entries.push(entry_of(place, place / 50, 0, 1)?).ok()?;
     }
     let change = Change::from_entries(alloc, &entries).ok()?;
-    Bag::in_parts_of(alloc, limits_of(WIDEST)?, MAX_PART_LEN)
+    Bag::in_parts_of(limits_of(WIDEST)?, MAX_PART_LEN)
         .applied(alloc, &change)
         .ok()
 }

@@ -91,7 +91,7 @@ fn check_edits(rt: &impl Abort, alloc: Global, parts: &Bag, plain: &Bag) {
 #[test]
 fn lists_in_short_parts_are_lists(rt: HostRuntime) {
     let limits = limits_of(WIDEST).expect(&rt, SET_UP);
-    let parts = Bag::in_parts_of(rt.alloc(), limits, 4);
+    let parts = Bag::in_parts_of(limits, 4);
     let plain = Bag::empty(rt.alloc(), limits);
     check_edits(&rt, rt.alloc(), &parts, &plain);
 }

@@ -94,7 +94,7 @@ const PAIRS: &str =
 // A bag of these pairs in such parts.
 fn bag(alloc: Global) -> Option<Bag> {
     let change = change_of(alloc, PAIRS)?;
-    Bag::in_parts_of(alloc, limits_of(WIDEST)?, 2)
+    Bag::in_parts_of(limits_of(WIDEST)?, 2)
         .applied(alloc, &change)
         .ok()
 }

@@ -20,7 +20,7 @@ pub(crate) struct Both {
 impl Both {
     // No pairs, in parts of at most so many.
     pub(crate) fn empty(alloc: Global, most: usize) -> Option<Both> {
-        let bag = Bag::in_parts_of(alloc, limits_of(WIDEST)?, most);
+        let bag = Bag::in_parts_of(limits_of(WIDEST)?, most);
         let table = FacedTable::build(alloc, &bag).ok()?;
         Some(Both { bag, table })
     }
