@@ -7,9 +7,13 @@ use Rattle.s2id_core.specs.CellId.{raw_of, first_of, end_of}
 use Rattle.s2id_core.specs.declared.cell_id.CellId.{CellId}
 use Rattle.s2ix_bag_pairs.specs.Collection.{Collection, IsCollection}
 use Rattle.s2ix_bag_pairs.specs.declared.pair.Held.{Held}
-use Rattle.s2ix_bag_pairs.proofs.CutAtRank.{ranks_rise}
+use Rattle.s2ix_bag_pairs.proofs.CutAtRank.{collection_drop, collection_take, ranks_rise}
 use Rattle.s2ix_table_spans.specs.Blocks.{IsExchange, HoldsCell}
 use Rattle.s2ix_table_spans.proofs.Numbers.{raw_by_rank}
+
+-- a part of a rising list rises
+pub part_rises : (n m : ℕ) (hs : Collection) → IsCollection hs → IsCollection (take n (drop m hs))
+part_rises n m hs rises = collection_take n 0 (drop m hs) (collection_drop m 0 hs rises)
 
 -- ---- numbers of cells by places
 

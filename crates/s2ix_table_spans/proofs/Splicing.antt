@@ -1,9 +1,7 @@
 -- A range table of which one stretch was written anew.
 use Rattle.std.proofs.Common.{◌≡◌, ℕ, ◌+◌, ◌-◌, ◌%◌, ◌<◌, ◌≤◌, ◌⊎◌, inl, inr, List, [], ◌∷◌, ◌++◌, length, take, drop, slice_index_or, refl, sym, ◌∙◌, ap, arith, Contains, subst}
 use Rattle.std.proofs.lemmas.Bool.{cases_lt}
-use Rattle.std.proofs.lemmas.List.{append_cancel_right, get_or_default, get_or-take, get_or-drop, drop-drop, take-append-drop, length-take, length-drop}
-use Rattle.std.proofs.lemmas.List.Elements.{Contains-get_or}
-use Rattle.std.proofs.Math.ListN.{get_or-eq_default}
+use Rattle.std.proofs.lemmas.List.{append_cancel_right, get_or_default, get_or-take, get_or-drop, length-take, length-drop}
 use Rattle.s2ix_bag_pairs.specs.Collection.{Collection}
 use Rattle.s2ix_table_walk.specs.Contents.{contents_at}
 use Rattle.s2ix_table_walk.specs.Bounds.{IsBound}
@@ -204,50 +202,3 @@ starts_split held from to starts k t lt =
     }
 
 -- ---- starts in place of those from one place up to another
-
--- starts do not fall with their places, after the last of which comes the end of the span
-starts_up : (held : Collection) (from to : ℕ) (starts : List ℕ) (k j : ℕ) → IsTableOver held from to (ranges_from held starts to) → k < j
-    → slice_index_or starts k to ≤ slice_index_or starts j to
-starts_up held from to starts k j t lt =
-    elim (cases_lt j (length starts)) [
-      | inl less ↦ (let r = starts_rise held from to starts t k j to lt less in omega arith)
-      | inr past ↦
-          (let last = get_or-eq_default starts to past in
-          elim (cases_lt k (length starts)) [
-            | inl within ↦
-                (let s = start_within held from to starts (slice_index_or starts k to) t (Contains-get_or starts k to within) in
-                let below = s.to in
-                omega arith)
-            | inr none ↦ (let e = get_or-eq_default starts to none in omega arith)
-          ])
-    ]
-
-stretch_first : (starts : List ℕ) (j k : ℕ) → j ≤ k → take (k - j) (drop j starts) ++ drop k starts ≡ drop j starts
-stretch_first starts j k le =
-    ap (λ n. take (k - j) (drop j starts) ++ drop n starts) (let e : k ≡ j + (k - j) = omega arith in e)
-    ∙ ap (λ ss. take (k - j) (drop j starts) ++ ss) (sym (drop-drop (k - j) j starts))
-    ∙ take-append-drop (k - j) (drop j starts)
-
-first_after : (starts : List ℕ) (k to : ℕ) → slice_index_or (drop k starts) 0 to ≡ slice_index_or starts k to
-first_after starts k to = get_or-drop k starts 0 to ∙ ap (λ n. slice_index_or starts n to) (let e : k + 0 ≡ k = omega arith in e)
-
--- the same, where the new starts come in place of those from one place up to another
-pub table_spliced_at : (old new held over : Collection) (from a b to : ℕ) (starts block : List ℕ) (j k : ℕ)
-    → IsTableOver old from to (ranges_from old starts to) → IsTableOver new a b (ranges_from new block b) → from ≤ a → b ≤ to
-    → slice_index_or starts j to ≡ a → slice_index_or starts k to ≡ b
-    → ((q : ℕ) → q % 2 ≡ 1 → from ≤ q → q < a → contents_at q held ≡ contents_at q old)
-    → ((q : ℕ) → q % 2 ≡ 1 → b ≤ q → q < to → contents_at q held ≡ contents_at q old)
-    → ((q : ℕ) → q % 2 ≡ 1 → a ≤ q → q < b → contents_at q held ≡ contents_at q new ++ over) → IsBound held a → IsBound held b
-    → IsTableOver held from to (ranges_from held (take j starts ++ (block ++ drop k starts)) to)
-table_spliced_at old new held over from a b to starts block j k t u le ge at_a at_b before after between bound_a bound_b =
-    let some = table_some new a b (ranges_from new block b) u in
-    let up : j ≤ k = elim (cases_lt k j) [
-      | inl lt ↦ absurd (let s = starts_up old from to starts k j t lt in omega arith)
-      | inr above ↦ above
-    ] in
-    let stretch = stretch_first starts j k up in
-    let whole = ap (λ ss. take j starts ++ ss) stretch ∙ take-append-drop j starts in
-    table_spliced old new held over from a b to (take j starts) (take (k - j) (drop j starts)) (drop k starts) block
-    (subst (λ (ss : List ℕ). IsTableOver old from to (ranges_from old ss to)) (sym whole) t) u le ge
-    (ap (λ ss. slice_index_or ss 0 to) stretch ∙ first_after starts j to ∙ at_a) (first_after starts k to ∙ at_b) before after between
-    bound_a bound_b

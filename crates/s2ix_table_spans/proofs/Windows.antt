@@ -1,7 +1,8 @@
 -- The search for the range that has a leaf.
-use Rattle.std.proofs.Common.{◌≡◌, ℕ, zero, suc, ◌+◌, ◌-◌, ◌/◌, ◌*◌, ◌%◌, ◌<◌, ◌≤◌, inl, inr, List, length, slice_index_or, AllPairs, ap, sym, ◌∙◌, subst, arith}
+use Rattle.std.proofs.Common.{◌≡◌, ℕ, zero, suc, ◌+◌, ◌-◌, ◌/◌, ◌*◌, ◌%◌, ◌<◌, ◌≤◌, inl, inr, List, length, slice_index_or, AllPairs, drop, ap, sym, ◌∙◌, subst, subst₂, arith}
 use Rattle.std.proofs.lemmas.Bool.{cases_eq, cases_lt}
 use Rattle.s2ix_bag_pairs.specs.Collection.{Collection}
+use Rattle.s2ix_table_walk.specs.Stretches.{IsSample}
 use Rattle.s2ix_table_walk.specs.Table.{IsTableOver, IsFound}
 use Rattle.s2ix_table_walk.proofs.Tables.{limits_rise}
 use Rattle.s2ix_table_spans.specs.Starts.{ranges_from, IsAmong, IsLastStart}
@@ -84,21 +85,24 @@ first_start held from to starts t =
     let f = t.first in
     (within, omega arith)
 
--- the range that a search finds
-pub last_found : (held : Collection) (from to : ℕ) (starts : List ℕ) (leaf k : ℕ) → IsTableOver held from to (ranges_from held starts to)
-    → IsFound (ranges_from held starts to) k leaf → IsLastStart starts leaf k
-last_found held from to starts leaf k t found =
-    let n = length_ranges held starts to in
-    let within = found.within in
-    let start = found.start in
-    let limit = found.limit in
-    let listed : k < length starts = omega arith in
-    let e = range_start held starts to k 0 listed in
-    record {
-      within = listed;
-      by = omega arith;
-      next = λ less. let f = range_limit held starts to k (k + 1) 0 (omega arith) less in omega arith;
-    }
+-- what a search for a leaf asks of starts and of their sample
+pub record AreSearchable (starts samples : List ℕ) (leaf : ℕ) : Type 0 where
+  pub some : 0 < length starts
+  pub rises : AllPairs (λ a b. a < b) starts
+  pub first : slice_index_or starts 0 0 ≤ leaf
+  pub sampled : IsSample (length starts - 2) (drop 1 starts) samples
+
+pub searchable : (held : Collection) (from to : ℕ) (starts samples xs ys : List ℕ) (leaf : ℕ)
+    → IsTableOver held from to (ranges_from held starts to) → from ≤ leaf → IsSample (length starts - 2) (drop 1 starts) samples
+    → xs ≡ starts → ys ≡ samples → AreSearchable xs ys leaf
+searchable held from to starts samples xs ys leaf t begins sampled same same_sample =
+    let first = first_start held from to starts t in
+    subst₂ (λ (zs ws : List ℕ). AreSearchable zs ws leaf) (sym same) (sym same_sample) (record {
+      some = first.0;
+      rises = starts_rise held from to starts t;
+      first = omega (arith, first.1, begins);
+      sampled = sampled;
+    })
 
 pub found_start : (held : Collection) (from to : ℕ) (starts : List ℕ) (leaf k : ℕ) → IsTableOver held from to (ranges_from held starts to)
     → leaf < to → IsLastStart starts leaf k → IsFound (ranges_from held starts to) k leaf

@@ -3,13 +3,9 @@ use Rattle.std.proofs.lemmas.List.{length-take, length-drop, take-take, take_all
 use Rattle.s2id_core.specs.CellId.{raw_of}
 use Rattle.s2id_core.proofs.Cells.{same_cell}
 use Rattle.s2id_core.proofs.Nested.{span}
-use Rattle.s2ix_bag_pairs.specs.Collection.{Collection, IsCollection}
-use Rattle.s2ix_bag_pairs.proofs.CutAtRank.{collection_take, collection_drop}
-use Rattle.s2ix_table_spans.proofs.Exchanges.{exchange}
+use Rattle.s2ix_bag_pairs.proofs.CutAtRank.{collection_take}
+use Rattle.s2ix_table_spans.proofs.Exchanges.{exchange, part_rises}
 use Rattle.s2ix_table_spans.proofs.block.block_of.Goals as goal
-
-part : (n m : ℕ) (hs : Collection) → IsCollection hs → IsCollection (take n (drop m hs))
-part n m hs rises = collection_take n 0 (drop m hs) (collection_drop m 0 hs rises)
 
 pub lesser_count-start-requires : goal.lesser_count-start-requires
 lesser_count-start-requires c = record { rises = collection_take c.args.common.front 0 c.args.held.now c.requires.rises }
@@ -25,13 +21,13 @@ overflow_sub-span_end c =
     omega arith
 
 pub lesser_count-requires : goal.lesser_count-requires
-lesser_count-requires c = record { rises = part _ _ c.args.held.now c.requires.rises }
+lesser_count-requires c = record { rises = part_rises _ _ c.args.held.now c.requires.rises }
 
 pub are_within-requires : goal.are_within-requires
-are_within-requires c = record { rises = part _ _ c.args.held.now c.requires.rises }
+are_within-requires c = record { rises = part_rises _ _ c.args.held.now c.requires.rises }
 
 pub are_within-requires-2 : goal.are_within-requires-2
-are_within-requires-2 c = record { rises = part _ _ c.args.next.now c.requires.next_rises }
+are_within-requires-2 c = record { rises = part_rises _ _ c.args.next.now c.requires.next_rises }
 
 pub returns-clause-block : goal.returns-clause-block
 returns-clause-block c =

@@ -1,16 +1,11 @@
-use Rattle.std.proofs.Common.{ℕ, take, drop}
-use Rattle.s2ix_bag_pairs.specs.Collection.{Collection, IsCollection}
-use Rattle.s2ix_bag_pairs.proofs.CutAtRank.{collection_take, collection_drop}
+use Rattle.s2ix_table_spans.proofs.Exchanges.{part_rises}
 use Rattle.s2ix_table_spans.proofs.block.has_changes.Goals as goal
 
-part : (n m : ℕ) (hs : Collection) → IsCollection hs → IsCollection (take n (drop m hs))
-part n m hs rises = collection_take n 0 (drop m hs) (collection_drop m 0 hs rises)
-
 pub are_within-requires : goal.are_within-requires
-are_within-requires c = record { rises = part _ _ c.args.held.now c.requires.rises }
+are_within-requires c = record { rises = part_rises _ _ c.args.held.now c.requires.rises }
 
 pub are_within-requires-then-are_within : goal.are_within-requires-then-are_within
-are_within-requires-then-are_within c = record { rises = part _ _ c.args.next.now c.requires.next_rises }
+are_within-requires-then-are_within c = record { rises = part_rises _ _ c.args.next.now c.requires.next_rises }
 
 pub returns-then-are_within : goal.returns-then-are_within
 returns-then-are_within c = record {

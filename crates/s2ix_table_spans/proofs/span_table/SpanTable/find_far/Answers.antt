@@ -1,39 +1,19 @@
-use Rattle.std.proofs.Common.{◌≡◌, ℕ, ◌-◌, ◌<◌, ◌≤◌, List, AllPairs, drop, length, slice_index_or, sym, arith, subst}
+use Rattle.std.proofs.Common.{◌≡◌, ℕ, ◌<◌, ◌≤◌, List, sym, arith, subst}
 use Rattle.s2id_core.specs.CellId.{raw_of}
 use Rattle.s2ix_table_walk.specs.Table.{IsFound}
-use Rattle.s2ix_table_walk.specs.Stretches.{IsSample}
 use Rattle.s2ix_table_spans.specs.SpanTable.{SpanRanges}
 use Rattle.s2ix_table_spans.specs.Starts.{IsLastStart}
-use Rattle.s2ix_table_spans.proofs.Windows.{starts_rise, first_start, found_start}
+use Rattle.s2ix_table_spans.proofs.Windows.{found_start, searchable}
 use Rattle.s2ix_table_spans.proofs.span_table.SpanTable.find_far.Goals as goal
 
-pub last_of_sampled-requires-clause-some : goal.last_of_sampled-requires-clause-some
-last_of_sampled-requires-clause-some c =
+pub last_of_sampled-requires : goal.last_of_sampled-requires
+last_of_sampled-requires c =
     let t = c.self.inside in
-    let same : c.as_slice.result.now ≡ t.starts.items = c.as_slice.ensures.value in
-    subst (λ (xs : List ℕ). 0 < length xs) (sym same) (first_start t.held t.from t.to t.starts.items c.self.invariant.table).0
-
-pub last_of_sampled-requires-clause-rises : goal.last_of_sampled-requires-clause-rises
-last_of_sampled-requires-clause-rises c =
-    let t = c.self.inside in
-    let same : c.as_slice.result.now ≡ t.starts.items = c.as_slice.ensures.value in
-    subst (AllPairs (λ a b. a < b)) (sym same) (starts_rise t.held t.from t.to t.starts.items c.self.invariant.table)
-
-pub last_of_sampled-requires-clause-first : goal.last_of_sampled-requires-clause-first
-last_of_sampled-requires-clause-first c =
-    let t = c.self.inside in
-    let same : c.as_slice.result.now ≡ t.starts.items = c.as_slice.ensures.value in
-    let first = (first_start t.held t.from t.to t.starts.items c.self.invariant.table).1 in
     let begins = subst (λ (v : SpanRanges). v.from ≤ raw_of c.args.leaf) (sym c.self.view_is) c.requires.begins in
-    let raw = c.raw.ensures in
-    subst (λ (xs : List ℕ). slice_index_or xs 0 0 ≤ c.raw.result) (sym same) (omega arith)
-
-pub last_of_sampled-requires-clause-sample : goal.last_of_sampled-requires-clause-sample
-last_of_sampled-requires-clause-sample c =
-    let t = c.self.inside in
-    let same : c.as_slice.result.now ≡ t.starts.items = c.as_slice.ensures.value in
-    let own = subst (IsSample (length t.starts.items - 2) (drop 1 t.starts.items)) (sym c.as_slice-2.ensures.value) t.sampled in
-    subst (λ (xs : List ℕ). IsSample (length xs - 2) (drop 1 xs) c.as_slice-2.result.now) (sym same) own
+    let at : t.from ≤ c.raw.result = omega (arith, c.raw.ensures, begins) in
+    let is = searchable t.held t.from t.to t.starts.items t.sample.items c.as_slice.result.now c.as_slice-2.result.now c.raw.result
+    c.self.invariant.table at t.sampled c.as_slice.ensures.value c.as_slice-2.ensures.value in
+    record { some = is.some; rises = is.rises; first = is.first; sample = is.sampled }
 
 pub returns : goal.returns
 returns c =
