@@ -17,13 +17,6 @@ pub record IsGathered (all left : Collection) (labels : List Label) : Type 0 whe
   pub within : (held : Held) → Contains left held → Contains all held
   pub each : (held : Held) → Contains all held → Contains labels held.pair.label ⊎ Contains left held
 
-pub none_gathered : (all : Collection) → IsGathered all all []
-none_gathered all = record {
-  met = λ label c. absurd (none_in_nil label c);
-  within = λ held c. c;
-  each = λ held c. inr c;
-}
-
 pub next_gathered : (all left next : Collection) (held : Held) (labels more : List Label) → left ≡ held ∷ next
     → ((other : Label) → Contains more other ↔ (Contains labels other ⊎ (other ≡ held.pair.label))) → IsGathered all left labels
     → IsGathered all next more
