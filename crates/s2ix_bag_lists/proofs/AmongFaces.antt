@@ -18,8 +18,8 @@ all_from f (l ∷ ls) apart =
     from_append (face_start f) (face_start (f + 1)) l (all_of ls) (start_more f (f + 1) (omega arith)) apart.0 apart.1
     (all_from (f + 1) ls apart.2)
 
-pub all_rise : (ls : List Collection) → AreFacesFrom 0 ls → IsCollection (all_of ls)
-all_rise ls apart = from_lower 0 (face_start 0) (all_of ls) (omega arith) (all_from 0 ls apart)
+pub faces_rise : (ls : List Collection) → AreFacesFrom 0 ls → IsCollection (all_of ls)
+faces_rise ls apart = from_lower 0 (face_start 0) (all_of ls) (omega arith) (all_from 0 ls apart)
 
 -- ---- one face
 
@@ -36,13 +36,13 @@ all_put (l ∷ ls) zero new within = refl
 all_put (l ∷ ls) (suc i) new within =
     ap (λ x. l ++ x) (all_put ls i new (omega arith)) ∙ sym (append_assoc l (all_of (take i ls)) (new ++ all_of (drop (suc i) ls)))
 
-pub front_below : (f i n : ℕ) (ls : List Collection) → n ≡ f + i → AreFacesFrom f ls → AreBelow (face_start n) (all_of (take i ls))
-front_below f zero n ls is apart = tt
-front_below f (suc i) n [] is apart = tt
-front_below f (suc i) n (l ∷ ls) is apart =
+pub faces_below : (f i n : ℕ) (ls : List Collection) → n ≡ f + i → AreFacesFrom f ls → AreBelow (face_start n) (all_of (take i ls))
+faces_below f zero n ls is apart = tt
+faces_below f (suc i) n [] is apart = tt
+faces_below f (suc i) n (l ∷ ls) is apart =
     below_append (face_start n) l (all_of (take i ls))
     (below_more (face_start (f + 1)) (face_start n) l (start_more (f + 1) n (omega arith)) apart.1)
-    (front_below (f + 1) i n ls (omega arith) apart.2)
+    (faces_below (f + 1) i n ls (omega arith) apart.2)
 
 pub back_from : (f i n : ℕ) (ls : List Collection) → n ≡ f + i → AreFacesFrom f ls → IsCollectionFrom (face_start n) (all_of (drop i ls))
 back_from f zero n ls is apart =
@@ -81,7 +81,7 @@ pub count_on_face : (ls : List Collection) (i k : ℕ) → i < length ls → Are
 count_on_face ls i k within apart le lt =
     ap (λ x. count_at x k) (all_is ls i within)
     ∙ count_front (face_start i) k (all_of (take i ls)) (get_or ls i [] ++ all_of (drop (suc i) ls))
-    (front_below 0 i i ls (omega arith) apart) le
+    (faces_below 0 i i ls (omega arith) apart) le
     ∙ count_back (face_start (i + 1)) k (get_or ls i []) (all_of (drop (suc i) ls)) (back_from 0 (suc i) (i + 1) ls (omega arith) apart) lt
 
 pub changed_on_face : (ls : List Collection) (i : ℕ) (es : List Entry) → i < length ls → AreFacesFrom 0 ls
@@ -90,5 +90,5 @@ pub changed_on_face : (ls : List Collection) (i : ℕ) (es : List Entry) → i <
 changed_on_face ls i es within apart es_is below =
     ap (λ x. changed x es) (all_is ls i within)
     ∙ changed_between (face_start i) (face_start (i + 1)) (all_of (take i ls)) (get_or ls i []) (all_of (drop (suc i) ls)) es
-    (front_below 0 i i ls (omega arith) apart) (back_from 0 (suc i) (i + 1) ls (omega arith) apart) es_is below
+    (faces_below 0 i i ls (omega arith) apart) (back_from 0 (suc i) (i + 1) ls (omega arith) apart) es_is below
     ∙ sym (all_put ls i (changed (get_or ls i []) es) within)

@@ -2,7 +2,7 @@
 use Rattle.std.proofs.Common.{◌≡◌, ℕ, zero, suc, ◌+◌, ◌-◌, ◌<◌, ◌≤◌, List, [], ◌∷◌, ◌++◌, take, drop, get_or, length, refl, sym, ap, ◌∙◌, subst, arith}
 use Rattle.s2ix_bag_pairs.specs.Collection.{Collection, IsCollectionFrom, AreBelow}
 use Rattle.s2ix_bag_lists.specs.Faces.{all_of, face_start, AreFacesFrom, IsFaceAt, IsOnFace}
-use Rattle.s2ix_bag_lists.proofs.AmongFaces.{all_is, back_from, front_below, own_is}
+use Rattle.s2ix_bag_lists.proofs.AmongFaces.{all_is, back_from, faces_below, own_is}
 
 pub take_front : (fs hs : Collection) → take (length fs) (fs ++ hs) ≡ fs
 take_front [] hs = refl
@@ -47,7 +47,7 @@ face_found ls place i before own within is apart was lt =
       begins = was.begins;
       ends = omega (arith, was.begins, lt);
       part = ap (λ (x : Collection). take (length own) x) after ∙ take_front own back;
-      below = subst (λ (x : Collection). AreBelow (face_start i) x) (sym ahead) (front_below 0 i i ls (omega arith) apart);
+      below = subst (λ (x : Collection). AreBelow (face_start i) x) (sym ahead) (faces_below 0 i i ls (omega arith) apart);
       rest = subst (λ (x : Collection). IsCollectionFrom (face_start (i + 1)) x) (sym rest)
           (back_from 0 (suc i) (i + 1) ls (omega arith) apart);
     }

@@ -107,7 +107,7 @@ position_absent hs es none =
     (cases_lt (position_or_len (is_mismatch hs) es) (length es))
 
 -- the entries of the faces before this one have the right counts before
-pub record Compared (ls : List Collection) (es : List Entry) (face : ℕ) (rest : List Entry) (passed : ℕ) : Type 0 where
+pub record FacesCompared (ls : List Collection) (es : List Entry) (face : ℕ) (rest : List Entry) (passed : ℕ) : Type 0 where
   pub rises : IsChangeListFrom (face_start face) rest
   pub none : position_or_len (is_mismatch (all_of ls)) es ≡ passed + position_or_len (is_mismatch (all_of ls)) rest
   pub long : passed + length rest ≡ length es
@@ -118,10 +118,10 @@ own_of_face face k rest rises =
     rise_in_front (face_start face) (take k rest) (drop k rest)
     (subst (λ (es : List Entry). IsChangeListFrom (face_start face) es) (sym (take-append-drop k rest)) rises)
 
-pub compared_found : (ls : List Collection) (es : List Entry) (face : ℕ) (rest : List Entry) (passed k place : ℕ) → face < length ls
-    → AreFacesFrom 0 ls → Compared ls es face rest passed → AreEntriesBelow (face_start (face + 1)) (take k rest)
+pub faces_compared_found : (ls : List Collection) (es : List Entry) (face : ℕ) (rest : List Entry) (passed k place : ℕ) → face < length ls
+    → AreFacesFrom 0 ls → FacesCompared ls es face rest passed → AreEntriesBelow (face_start (face + 1)) (take k rest)
     → position (is_mismatch (get_or ls face [])) (take k rest) ≡ Some place → position (is_mismatch (all_of ls)) es ≡ Some (passed + place)
-compared_found ls es face rest passed k place within apart was below found =
+faces_compared_found ls es face rest passed k place within apart was below found =
     let own = take k rest in
     let own_found = position_found (get_or ls face []) own place found in
     let same = same_mismatch ls face (face_start face) own within apart (omega arith) (own_of_face face k rest was.rises) below in
@@ -132,11 +132,11 @@ compared_found ls es face rest passed k place within apart was below found =
     let lengths : length own + length (drop k rest) ≡ length rest = sym (length-append own (drop k rest)) ∙ shorter in
     position_is (all_of ls) es (omega (arith, at, was.long, own_found.1, lengths)) ∙ ap (λ n. Some n) at
 
-pub compared_step : (ls : List Collection) (es : List Entry) (face : ℕ) (rest : List Entry) (passed k : ℕ) → face < length ls
-    → AreFacesFrom 0 ls → Compared ls es face rest passed → AreEntriesBelow (face_start (face + 1)) (take k rest)
+pub faces_compared_step : (ls : List Collection) (es : List Entry) (face : ℕ) (rest : List Entry) (passed k : ℕ) → face < length ls
+    → AreFacesFrom 0 ls → FacesCompared ls es face rest passed → AreEntriesBelow (face_start (face + 1)) (take k rest)
     → IsChangeListFrom (face_start (face + 1)) (drop k rest) → position (is_mismatch (get_or ls face [])) (take k rest) ≡ None
-    → Compared ls es (face + 1) (drop k rest) (passed + length (take k rest))
-compared_step ls es face rest passed k within apart was below later none =
+    → FacesCompared ls es (face + 1) (drop k rest) (passed + length (take k rest))
+faces_compared_step ls es face rest passed k within apart was below later none =
     let own = take k rest in
     let same = same_mismatch ls face (face_start face) own within apart (omega arith) (own_of_face face k rest was.rises) below in
     let absent = position_absent (get_or ls face []) own none in
@@ -150,9 +150,9 @@ compared_step ls es face rest passed k within apart was below later none =
       long = omega (arith, was.long, lengths);
     }
 
-pub compared_end : (ls : List Collection) (es : List Entry) (face : ℕ) (rest : List Entry) (passed : ℕ) → face ≡ 6
-    → Compared ls es face rest passed → position (is_mismatch (all_of ls)) es ≡ None
-compared_end ls es face rest passed last was =
+pub faces_compared_end : (ls : List Collection) (es : List Entry) (face : ℕ) (rest : List Entry) (passed : ℕ) → face ≡ 6
+    → FacesCompared ls es face rest passed → position (is_mismatch (all_of ls)) es ≡ None
+faces_compared_end ls es face rest passed last was =
     let none = no_entry_after rest (subst (λ (f : ℕ). IsChangeListFrom (face_start f) rest) last was.rises) in
     let nothing = ap (λ xs. position_or_len (is_mismatch (all_of ls)) xs) none in
     let empty = ap (λ (xs : List Entry). length xs) none in

@@ -8,7 +8,7 @@ use Rattle.s2ix_bag_pairs.specs.declared.pair.Held.{Held}
 use Rattle.s2ix_bag_pairs.proofs.Changes.{changed-append}
 use Rattle.s2ix_bag_lists.specs.Faces.{AreEntriesBelow, all_of, face_start}
 use Rattle.s2ix_bag_lists.specs.Parts.{IsPartAt}
-use Rattle.s2ix_bag_lists.proofs.AmongFaces.{front_below}
+use Rattle.s2ix_bag_lists.proofs.AmongFaces.{faces_below}
 use Rattle.s2ix_bag_lists.proofs.FaceByFace.{Changing, changing_step}
 use Rattle.s2ix_bag_lists.proofs.Joins.{all_split}
 use Rattle.s2ix_bag_lists.proofs.Places.{length_upto}
@@ -33,7 +33,7 @@ own_few first es face ls rest k six was below later =
     let made : changed first es ≡ front ++ changed back (drop k rest) =
     sym next.made
     ∙ ap (λ (hs : Collection). changed hs (drop k rest)) (all_split (face + 1) after)
-    ∙ changed-append front back (face_start (face + 1)) (drop k rest) (front_below 0 (face + 1) (face + 1) after (omega arith) next.apart)
+    ∙ changed-append front back (face_start (face + 1)) (drop k rest) (faces_below 0 (face + 1) (face + 1) after (omega arith) next.apart)
     later in
     let upto = length_upto after face within in
     let own : length (get_or after face []) ≡ length new =

@@ -42,7 +42,7 @@ skipped_back n fs bs (e ∷ es) bs_is below =
 -- ---- from part to part
 
 -- the entries that were passed have the right counts before, and the others fall into the parts ahead
-pub record Compared (all : Collection) (es : List Entry) (ahead : List Collection) (rest : List Entry) (passed : ℕ) : Type 0 where
+pub record PartsCompared (all : Collection) (es : List Entry) (ahead : List Collection) (rest : List Entry) (passed : ℕ) : Type 0 where
   pub rises : IsCollection (all_of ahead)
   pub filled : AreFilled ahead
   pub entries_rise : IsChangeList rest
@@ -55,9 +55,9 @@ pub record IsOwn (held : Collection) (own : List Entry) : Type 0 where
   pub held_rise : IsCollection held
   pub entries_rise : IsChangeList own
 
-pub compared_own : (all : Collection) (es : List Entry) (ahead : List Collection) (rest : List Entry) (passed rank i k : ℕ)
-    → Compared all es ahead rest passed → IsNext ahead rest rank i k → IsOwn (get_or ahead i []) (take k rest)
-compared_own all es ahead rest passed rank i k was next = record {
+pub parts_compared_own : (all : Collection) (es : List Entry) (ahead : List Collection) (rest : List Entry) (passed rank i k : ℕ)
+    → PartsCompared all es ahead rest passed → IsNext ahead rest rank i k → IsOwn (get_or ahead i []) (take k rest)
+parts_compared_own all es ahead rest passed rank i k was next = record {
   held_rise = part_rises ahead i next.within was.rises;
   entries_rise = rise_in_front 0 (take k rest) (drop k rest)
       (subst (λ (xs : List Entry). IsChangeList xs) (sym (take-append-drop k rest)) was.entries_rise);
@@ -84,10 +84,10 @@ lengths_of : (k : ℕ) (rest : List Entry) → length (take k rest) + length (dr
 lengths_of k rest =
     sym (length-append (take k rest) (drop k rest)) ∙ ap (λ (xs : List Entry). length xs) (take-append-drop k rest)
 
-pub compared_found : (all : Collection) (es : List Entry) (ahead : List Collection) (rest : List Entry) (passed rank i k place : ℕ)
-    → Compared all es ahead rest passed → IsNext ahead rest rank i k
+pub parts_compared_found : (all : Collection) (es : List Entry) (ahead : List Collection) (rest : List Entry) (passed rank i k place : ℕ)
+    → PartsCompared all es ahead rest passed → IsNext ahead rest rank i k
     → position (is_mismatch (get_or ahead i [])) (take k rest) ≡ Some place → position (is_mismatch all) es ≡ Some (passed + place)
-compared_found all es ahead rest passed rank i k place was next found =
+parts_compared_found all es ahead rest passed rank i k place was next found =
     let there = get_or ahead i [] ++ all_of (drop (suc i) ahead) in
     let own_found = position_found (get_or ahead i []) (take k rest) place found in
     let same = in_part ahead rest rank i k next in
@@ -96,11 +96,11 @@ compared_found all es ahead rest passed rank i k place was next found =
     omega (arith, was.none, from_next ahead rest rank i k next, inside, same, own_found.0) in
     position_is all es (omega (arith, at, was.long, own_found.1, lengths_of k rest)) ∙ ap (λ n. Some n) at
 
-pub compared_step : (all : Collection) (es : List Entry) (ahead : List Collection) (rest : List Entry) (passed rank i k : ℕ)
-    → Compared all es ahead rest passed → IsNext ahead rest rank i k
+pub parts_compared_step : (all : Collection) (es : List Entry) (ahead : List Collection) (rest : List Entry) (passed rank i k : ℕ)
+    → PartsCompared all es ahead rest passed → IsNext ahead rest rank i k
     → position (is_mismatch (get_or ahead i [])) (take k rest) ≡ None
-    → Compared all es (drop (i + 1) ahead) (drop k rest) (passed + length (take k rest))
-compared_step all es ahead rest passed rank i k was next none =
+    → PartsCompared all es (drop (i + 1) ahead) (drop k rest) (passed + length (take k rest))
+parts_compared_step all es ahead rest passed rank i k was next none =
     let front = all_of (take i ahead) in
     let own = get_or ahead i [] in
     let back = all_of (drop (suc i) ahead) in

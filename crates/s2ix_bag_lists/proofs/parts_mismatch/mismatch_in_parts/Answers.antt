@@ -7,7 +7,7 @@ use Rattle.s2ix_bag_pairs.specs.Pair.{rank_of}
 use Rattle.s2ix_bag_pairs.specs.declared.pair.Entry.{Entry}
 use Rattle.s2ix_bag_lists.specs.Faces.{all_of}
 use Rattle.s2ix_bag_lists.proofs.Making.{IsNext, begins_from}
-use Rattle.s2ix_bag_lists.proofs.Mismatches.{Compared, compared_found, compared_own, compared_step}
+use Rattle.s2ix_bag_lists.proofs.Mismatches.{PartsCompared, parts_compared_found, parts_compared_own, parts_compared_step}
 use Rattle.s2ix_bag_lists.proofs.Refusals.{is_mismatch}
 use Rattle.s2ix_bag_lists.proofs.parts_mismatch.mismatch_in_parts.Goals as goal
 
@@ -31,7 +31,7 @@ first_mismatch-requires c =
     let es = c.args.entries.now in
     let passed = c.loop-first.passed in
     let part = c.as_slice.ensures ∙ c.index-ahead-part.is ∙ get_or_default ahead i c.index-ahead-part.result [] next.within in
-    let own = compared_own all es ahead rest passed rank i k was next in
+    let own = parts_compared_own all es ahead rest passed rank i k was next in
     record {
       held_rise = subst (λ (hs : Collection). IsCollection hs) (sym part) own.held_rise;
       entries_rise = subst (λ (xs : List Entry). IsChangeList xs) (sym c.split_at.ensures.front) own.entries_rise;
@@ -60,7 +60,7 @@ returns-in-Some-first_mismatch c =
     let Found : Collection → List Entry → Type 0 =
     λ hs xs. Some c.in-Some-first_mismatch.place ≡ position (is_mismatch hs) xs in
     let found = subst₂ Found part c.split_at.ensures.front c.in-Some-first_mismatch.ensures in
-    sym (compared_found all es ahead rest passed rank i k c.in-Some-first_mismatch.place was next (sym found))
+    sym (parts_compared_found all es ahead rest passed rank i k c.in-Some-first_mismatch.place was next (sym found))
 
 pub loop-first-preserved : goal.loop-first-preserved
 loop-first-preserved c =
@@ -84,14 +84,14 @@ loop-first-preserved c =
     let part = c.as_slice.ensures ∙ c.index-ahead-part.is ∙ get_or_default ahead i c.index-ahead-part.result [] next.within in
     let Absent : Collection → List Entry → Type 0 = λ hs xs. None ≡ position (is_mismatch hs) xs in
     let none = subst₂ Absent part c.split_at.ensures.front c.in_default-first_mismatch.ensures in
-    let step = compared_step all es ahead rest passed rank i k was next (sym none) in
+    let step = parts_compared_step all es ahead rest passed rank i k was next (sym none) in
     let Next : List Entry → List Entry → Type 0 =
-    λ own later. Compared all es (drop (i + 1) ahead) later (passed + length own) in
+    λ own later. PartsCompared all es (drop (i + 1) ahead) later (passed + length own) in
     let moved = subst₂ Next (sym c.split_at.ensures.front) (sym c.split_at.ensures.back) step in
     let shorter = length-drop (i + 1) ahead in
     let kept = ap (λ (x : List Collection). length x) c.split_at-in-Some.ensures.back in (
       omega (arith, c.loop-first.invariant.0, shorter, kept),
       subst
-          (λ (x : List Collection). Compared all es x c.split_at.result.1.now (passed + length c.split_at.result.0.now))
+          (λ (x : List Collection). PartsCompared all es x c.split_at.result.1.now (passed + length c.split_at.result.0.now))
           (sym c.split_at-in-Some.ensures.back) moved,
     )

@@ -1,11 +1,11 @@
 use Rattle.std.proofs.Common.{◌≤◌, length}
 use Rattle.s2ix_bag_lists.specs.Faces.{all_of}
-use Rattle.s2ix_bag_lists.proofs.Mismatches.{Compared}
+use Rattle.s2ix_bag_lists.proofs.Mismatches.{PartsCompared}
 use Rattle.s2ix_bag_lists.proofs.parts_mismatch.mismatch_in_parts.Given as goal
 
 abbrev pub invariant-loop-first : goal.invariant-loop-first
 invariant-loop-first l =
-    (length l.ahead ≤ length l.parts) × Compared (all_of l.parts) l.entries l.ahead l.rest l.passed
+    (length l.ahead ≤ length l.parts) × PartsCompared (all_of l.parts) l.entries l.ahead l.rest l.passed
 
 abbrev pub decreases-loop-first : goal.decreases-loop-first
 decreases-loop-first l = length l.ahead

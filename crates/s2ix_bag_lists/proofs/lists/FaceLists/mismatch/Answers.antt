@@ -7,7 +7,7 @@ use Rattle.s2ix_bag_pairs.specs.declared.pair.Entry.{Entry}
 use Rattle.s2ix_bag_pairs.proofs.Changes.{change_lower}
 use Rattle.s2ix_bag_lists.proofs.Refusals.{is_mismatch}
 use Rattle.s2ix_bag_lists.specs.Faces.{face_start}
-use Rattle.s2ix_bag_lists.proofs.FaceByFace.{Compared, compared_found, compared_step, compared_end, own_of_face}
+use Rattle.s2ix_bag_lists.proofs.FaceByFace.{FacesCompared, faces_compared_found, faces_compared_step, faces_compared_end, own_of_face}
 use Rattle.s2ix_bag_lists.proofs.lists.FaceLists.mismatch.Goals as goal
 
 pub entries_up_to-requires : goal.entries_up_to-requires
@@ -28,7 +28,7 @@ returns-in-Some c =
     let own = sym (get_or_default ls face [] c.index-self-face.result short) in
     let Found : Collection → List Entry → Type 0 = λ hs es. Some c.in-Some.place ≡ position (is_mismatch hs) es in
     let found = subst₂ Found own c.split_at.ensures.front c.in-Some.ensures in
-    sym (compared_found ls c.args.entries.now face c.loop-face.rest.now c.loop-face.passed c.entries_up_to.result c.in-Some.place short
+    sym (faces_compared_found ls c.args.entries.now face c.loop-face.rest.now c.loop-face.passed c.entries_up_to.result c.in-Some.place short
     c.self.invariant.apart c.loop-face.invariant c.entries_up_to.ensures.below (sym found))
     ∙ ap (λ hs. position (is_mismatch hs) c.args.entries.now) c.self.view_is
 
@@ -41,14 +41,14 @@ loop-face-preserved c =
     let Absent : Collection → List Entry → Type 0 = λ hs es. None ≡ position (is_mismatch hs) es in
     let none = subst₂ Absent own c.split_at.ensures.front c.in_default.ensures in
     let next =
-    compared_step ls c.args.entries.now face c.loop-face.rest.now c.loop-face.passed c.entries_up_to.result short
+    faces_compared_step ls c.args.entries.now face c.loop-face.rest.now c.loop-face.passed c.entries_up_to.result short
     c.self.invariant.apart c.loop-face.invariant c.entries_up_to.ensures.below c.entries_up_to.ensures.rest (sym none) in
     let Next : List Entry → List Entry → Type 0 =
-    λ later own. Compared ls c.args.entries.now (face + 1) later (c.loop-face.passed + length own) in
+    λ later own. FacesCompared ls c.args.entries.now (face + 1) later (c.loop-face.passed + length own) in
     subst₂ Next (sym c.split_at.ensures.back) (sym c.split_at.ensures.front) next
 
 pub returns : goal.returns
 returns c =
     let ls = c.self.inside.lists in
-    sym (compared_end ls c.args.entries.now c.loop-face.face c.loop-face.rest.now c.loop-face.passed (omega arith) c.loop-face.invariant)
+    sym (faces_compared_end ls c.args.entries.now c.loop-face.face c.loop-face.rest.now c.loop-face.passed (omega arith) c.loop-face.invariant)
     ∙ ap (λ hs. position (is_mismatch hs) c.args.entries.now) c.self.view_is
