@@ -1,5 +1,5 @@
 -- What `==` answers of two unions: whether they have the same cells, and so whether they have the same leaves.
-use Rattle.std.proofs.Common.{◌≡◌, ◌↔◌, true, List, nat_eq, subst, arith}
+use Rattle.std.proofs.Common.{◌≡◌, ◌↔◌, true, List, nat_eq, subst}
 use Rattle.std.specs.Bool.{Decides}
 use Rattle.std.specs.Ordering.{on}
 use Rattle.std.specs.Cmp.Lexicographic.{pointwise, pointwise_decides}

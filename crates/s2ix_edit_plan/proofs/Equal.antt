@@ -1,13 +1,10 @@
 -- What is equal is one: edits, by their parts.
-use Rattle.std.proofs.Common.{◌≡◌, ℕ, true, List, nat_eq, ap, ap₂, subst, arith}
+use Rattle.std.proofs.Common.{◌≡◌, ℕ, true, List, ap, ap₂, subst, arith}
 use Rattle.std.specs.Bool.{Decides}
-use Rattle.std.specs.Cmp.{first_so, nat_eq_equiv, on_equiv}
-use Rattle.std.specs.Cmp.Lexicographic.{pointwise, pointwise_decides}
-use Rattle.std.specs.Ordering.{on}
+use Rattle.std.specs.Cmp.{first_so}
 use Rattle.std.proofs.lemmas.Bool.Decides.{nat_tests}
-use Rattle.s2id_core.proofs.Cells.{same_cell}
-use Rattle.s2id_core.specs.CellId.{raw_of}
 use Rattle.s2id_core.specs.declared.cell_id.CellId.{CellId}
+use Rattle.s2id_union.proofs.Equal.{cell_lists_decided}
 use Rattle.s2ix_bag_pairs.specs.declared.label.Label.{Label}
 use Rattle.s2ix_bag_pairs.specs.declared.pair.Pair.{Pair}
 use Rattle.s2ix_bag_pairs.proofs.Pairs.{same_label, same_pair}
@@ -16,24 +13,11 @@ use Rattle.s2ix_edit_plan.specs.declared.edit.Edit.TheVariants.{Add, AddUnion, R
 use Rattle.s2ix_edit_plan.specs.contracts.edit.EditPartialEq.TheImpl.{eq-value as edit_test}
 use Rattle.s2ix_edit_plan.specs.contracts.edit.EditEq.TheImpl.Laws as of_edits
 
--- ---- unions, by their cells
-
-one_cell : (c d : CellId) → on raw_of nat_eq c d ≡ true → c ≡ d
-one_cell c d e = same_cell c d (grind (arith, nat_tests))
-
-cell_decided : (c d : CellId) → Decides (on raw_of nat_eq c d) (c ≡ d)
-cell_decided c d = (one_cell c d, λ e. subst (λ (x : CellId). on raw_of nat_eq c x ≡ true) e ((on_equiv raw_of nat_eq_equiv).refl c))
-
-cells_decided : (xs ys : List CellId) → Decides (pointwise (on raw_of nat_eq) xs ys) (xs ≡ ys)
-cells_decided = pointwise_decides cell_decided
-
--- ---- edits
-
 one_edit : (a b : Edit) → edit_test.it a b ≡ true → a ≡ b
 one_edit (Add p c) (Add q d) h = ap₂ (λ (x : Pair) (n : ℕ). Add x n) (same_pair p q (grind (arith, nat_tests))) (grind (arith, nat_tests))
 one_edit (Add p c) b h = cc
 one_edit (AddUnion cs l) (AddUnion ds m) h =
-    ap₂ (λ (cells : List CellId) (x : Label). AddUnion cells x) ((cells_decided cs ds).0 (first_so _ _ h))
+    ap₂ (λ (cells : List CellId) (x : Label). AddUnion cells x) ((cell_lists_decided cs ds).0 (first_so _ _ h))
     (same_label l m (grind (arith, nat_tests)))
 one_edit (AddUnion cs l) b h = cc
 one_edit (Remove p c) (Remove q d) h =

@@ -3,7 +3,6 @@ use Rattle.std.proofs.Common.{◌≡◌, ◌≢◌, ℕ, zero, suc, ◌+◌, ◌
 use Rattle.std.specs.Prelude.{pos, ◌-ℤ◌}
 use Rattle.std.specs.List.{list_any, position_or_len}
 use Rattle.std.proofs.lemmas.Bool.{cases_eq, cases_lt, cond-true, cond-false}
-use Rattle.std.proofs.Math.Seq.{take-length}
 use Rattle.std.proofs.lemmas.Int.{ints}
 use Rattle.std.proofs.lemmas.Option.{some_pair_parts}
 use Rattle.s2ix_bag_pairs.specs.declared.pair.Entry.{Entry}
@@ -318,19 +317,10 @@ added_again rows hs is =
 
 -- ---- the place found by halving
 
-pub some_row : (rows : List Held) (hs : Collection) → first_not_held rows hs ≢ None → 0 < length rows
-some_row [] hs fails = absurd (fails refl)
-some_row (row ∷ rows) hs fails = omega arith
-
 -- the rows before a place find their copies, and those before a later place don't all
 abbrev pub Halved : List Held → Collection → ℕ → ℕ → Type 0
 Halved rows hs low high =
     (low < high) × (high ≤ length rows) × (first_not_held (take low rows) hs ≡ None) × (first_not_held (take high rows) hs ≢ None)
-
-pub halving_begins : (rows : List Held) (hs : Collection) → first_not_held rows hs ≢ None → Halved rows hs 0 (length rows)
-halving_begins rows hs fails =
-    let Fails : List Held → Type 0 = λ rs. first_not_held rs hs ≢ None in
-    (some_row rows hs fails, omega arith, refl, subst Fails (sym (take-length rows)) fails)
 
 pub halving_ends : (rows : List Held) (hs : Collection) (low high : ℕ) → Halved rows hs low high → high - low ≤ 1
     → first_not_held rows hs ≡ Some low
@@ -358,3 +348,16 @@ unfolding refused_at
 refused_for_none hs rows is none =
     let held = none_from_held 0 rows hs is (λ k. omega (arith, none, none_at rows k)) in
     refusal_is hs rows None held ∙ cond-true _ _ _ (eq-eqb _ _ none)
+
+-- rows that aren't refused are held, and some have copies
+both_held : (none : Bool) (place : Option ℕ) → refused_at none place ≡ None → (place ≡ None) × (none ≡ false)
+unfolding refused_at
+both_held none (Some place) accepted = cc
+both_held true None accepted = cc
+both_held false None accepted = (refl, refl)
+
+pub rows_accepted : (hs : Collection) (rows : List Held) → removal_plan_refusal hs rows ≡ None
+    → (first_not_held rows hs ≡ None) × ((copies_in rows == 0) ≡ false)
+rows_accepted hs rows accepted =
+    let found = first_not_held rows hs in
+    both_held (copies_in rows == 0) found (sym (refusal_is hs rows found refl) ∙ accepted)
