@@ -1,64 +1,27 @@
 -- A change, cut at a seam between neighbouring tables.
-use Rattle.std.proofs.Common.{◌≡◌, ℕ, zero, suc, ◌+◌, ◌-◌, ◌*◌, ◌%◌, ◌<◌, ◌≤◌, inl, inr, List, [], ◌∷◌, ◌++◌, take, drop, get_or, length, refl, sym, ap, ap₂, ◌∙◌, subst, ⊎_elim, arith, append_assoc, Contains}
-use Rattle.std.proofs.lemmas.Bool.{cases_order}
+use Rattle.std.proofs.Common.{◌≡◌, ℕ, zero, suc, ◌+◌, ◌-◌, ◌*◌, ◌%◌, ◌<◌, ◌≤◌, List, [], ◌∷◌, ◌++◌, take, drop, get_or, length, refl, sym, ap, ap₂, ◌∙◌, subst, arith, append_assoc}
 use Rattle.std.proofs.lemmas.List.{length-append, take-append-drop, take_all, drop_all, drop_more}
 use Rattle.s2id_core.specs.CellId.{raw_of, first_of, end_of}
 use Rattle.s2id_core.specs.declared.cell_id.CellId.{CellId}
-use Rattle.s2id_core.proofs.Lists.{none_in_nil, at_head, in_tail, cons_cases}
+use Rattle.s2id_core.proofs.Lists.{none_in_nil, at_head, in_tail}
 use Rattle.s2id_core.proofs.Nested.{span}
 use Rattle.s2ix_bag_lists.specs.Faces.{AreEntriesBelow, all_of}
 use Rattle.s2ix_bag_lists.proofs.Joined.{changed_back, changed_below, changed_by_parts, rise_in_front}
 use Rattle.s2ix_bag_pairs.specs.Change.{IsChangeListFrom, changed}
-use Rattle.s2ix_bag_pairs.specs.Collection.{Collection, IsCollection, IsCollectionFrom, AreBelow, held_with, set_count}
+use Rattle.s2ix_bag_pairs.specs.Collection.{Collection, IsCollection, IsCollectionFrom, AreBelow}
 use Rattle.s2ix_bag_pairs.specs.Label.{value_of}
 use Rattle.s2ix_bag_pairs.specs.Pair.{rank_of}
 use Rattle.s2ix_bag_pairs.specs.declared.pair.Entry.{Entry}
 use Rattle.s2ix_bag_pairs.specs.declared.pair.Held.{Held}
-use Rattle.s2ix_bag_pairs.specs.declared.pair.Pair.{Pair}
 use Rattle.s2ix_bag_pairs.proofs.Changes.{changed-append, changed_keeps_from, change_lower}
-use Rattle.s2ix_bag_pairs.proofs.Counts.{set_before, set_at, set_after}
 use Rattle.s2ix_table_spans.specs.SpanTable.{SpanRanges, IsInSpan}
+use Rattle.s2ix_table_heavy.proofs.ChangedCells.{changed_cells}
 use Rattle.s2ix_table.specs.FaceSpans.{spans_of, TablePart}
 use Rattle.s2ix_table.specs.Joined.{held_in, AreNeighbours}
 use Rattle.s2ix_table.specs.Parts.{EndsBy, BeginsFrom, EntriesEndBy, EntriesBeginFrom, AreBegins, IsChangedSpan, IsCut}
 use Rattle.s2ix_table.proofs.Appended.{below_cut, from_cut}
 use Rattle.s2ix_table.proofs.Neighbours.{all_begin, all_rise}
 use Rattle.s2ix_table.proofs.Parting.{split_lists, one_more, own_rises, none_after, front_rises, back_rises, ends_append, ends_later, begins_front, ends_back}
-
--- ---- what a change makes of cells
-
-with_cells : (P : CellId → Type 0) (p : Pair) (c : ℕ) (hs : Collection) → ((h : Held) → Contains hs h → P h.pair.cell) → P p.cell → (h : Held)
-    → Contains (held_with p c hs) h → P h.pair.cell
-with_cells P p zero hs old new h is = old h is
-with_cells P p (suc c) hs old new h is =
-    elim (cons_cases (record { pair = p; count = suc c }) hs h is) [
-      | inl e ↦ subst (λ (x : Held). P x.pair.cell) e new
-      | inr rest ↦ old h rest
-    ]
-
-set_cells : (P : CellId → Type 0) (p : Pair) (c : ℕ) (hs : Collection) → ((h : Held) → Contains hs h → P h.pair.cell) → P p.cell → (h : Held)
-    → Contains (set_count p c hs) h → P h.pair.cell
-set_cells P p c [] old new h is = with_cells P p c [] old new h is
-set_cells P p c (k ∷ ks) old new h is =
-    let Held_in : Collection → Type 0 = λ xs. Contains xs h in
-    let later : (x : Held) → Contains ks x → P x.pair.cell = λ x i. old x (in_tail k ks x i) in
-    ⊎_elim
-    (λ same. with_cells P p c ks later new h (subst Held_in (set_at p c k ks same) is))
-    (λ order. ⊎_elim
-    (λ before. with_cells P p c (k ∷ ks) old new h (subst Held_in (set_before p c k ks before) is))
-    (λ past. ⊎_elim
-    (λ (e : k ≡ h). subst (λ (x : Held). P x.pair.cell) e (old k (at_head k ks)))
-    (λ rest. set_cells P p c ks later new h rest)
-    (cons_cases k (set_count p c ks) h (subst Held_in (set_after p c k ks past) is)))
-    order)
-    (cases_order (rank_of p) (rank_of k.pair))
-
--- what holds of all held cells and of those of the entries holds of all cells afterwards
-pub changed_cells : (P : CellId → Type 0) (hs : Collection) (es : List Entry) → ((h : Held) → Contains hs h → P h.pair.cell)
-    → ((e : Entry) → Contains es e → P e.pair.cell) → (h : Held) → Contains (changed hs es) h → P h.pair.cell
-changed_cells P hs [] old new h is = old h is
-changed_cells P hs (e ∷ es) old new h is =
-    changed_cells P (set_count e.pair e.after hs) es (set_cells P e.pair e.after hs old (new e (at_head e es))) (λ x i. new x (in_tail e es x i)) h is
 
 -- ---- entries beside a seam
 

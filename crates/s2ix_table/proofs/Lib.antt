@@ -64,3 +64,5 @@ pub mod TableFaces
 pub mod FaceLists
 pub mod FacePut
 pub mod Kept
+pub mod SameOffsets
+pub mod Within

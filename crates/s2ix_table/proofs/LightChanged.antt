@@ -28,7 +28,8 @@ use Rattle.s2ix_table.specs.Layers.{ShareNoCell, together}
 use Rattle.s2ix_table.specs.Parts.{EntriesBeginFrom, EntriesEndBy, AreTouched, with_parts}
 use Rattle.s2ix_table.proofs.Appended.{below_cut, from_cut}
 use Rattle.s2ix_table.proofs.Cuts.{between, back, cut, cut_end, cut_is, front, neighbours_append}
-use Rattle.s2ix_table.proofs.Cutting.{all_end, changed_cells, entries_below, entries_from, held_append, held_split, some_span}
+use Rattle.s2ix_table_heavy.proofs.ChangedCells.{changed_cells}
+use Rattle.s2ix_table.proofs.Cutting.{all_end, entries_below, entries_from, held_append, held_split, some_span}
 use Rattle.s2ix_table.proofs.FaceWith.{length_overs, overs_append, overs_dropped, overs_taken}
 use Rattle.s2ix_table.proofs.Layers.{cells_part_pairs, length_together}
 use Rattle.s2ix_table.proofs.Neighbours.{all_begin, all_rise}

@@ -1,10 +1,10 @@
 -- Pairs in lists, cut into neighbouring parts.
-use Rattle.std.proofs.Common.{◌≡◌, ℕ, zero, suc, ◌+◌, ◌%◌, ◌<◌, ◌≤◌, inl, inr, List, [], ◌∷◌, ◌++◌, take, drop, get_or, length, refl, sym, ap, ◌∙◌, subst, arith, append_assoc, Contains}
-use Rattle.std.proofs.lemmas.List.{append-nil, length-append, take_all, take_more}
+use Rattle.std.proofs.Common.{◌≡◌, ℕ, zero, suc, ◌+◌, ◌%◌, ◌<◌, ◌≤◌, inl, inr, List, [], ◌∷◌, ◌++◌, take, drop, get_or, length, refl, sym, ap, ◌∙◌, subst, arith, append_assoc}
+use Rattle.std.proofs.lemmas.List.{append-nil, length-append, take_more}
 use Rattle.std.proofs.lemmas.List.Concat.{flat_map-append}
 use Rattle.std.proofs.lemmas.List.Elements.{Contains-append_cases, Contains-append_left, Contains-append_right}
 use Rattle.s2id_core.specs.CellId.{raw_of}
-use Rattle.s2id_core.proofs.Lists.{none_in_nil, at_head, cons_cases}
+use Rattle.s2id_core.proofs.Lists.{none_in_nil, at_head}
 use Rattle.s2id_core.proofs.Nested.{span}
 use Rattle.s2ix_bag_lists.specs.Faces.{all_of}
 use Rattle.s2ix_bag_pairs.specs.Collection.{Collection, IsCollection, IsCollectionFrom}
@@ -220,24 +220,6 @@ parting_end held from to parts rest seams start was le =
     )
 
 -- ---- one pair more
-
--- what holds of the first elements and of the next one
-pub all_front : {X : Type 0} (P : X → Type 0) (k : ℕ) (xs : List X) (d : X) → k < length xs → ((x : X) → Contains (take k xs) x → P x)
-    → P (get_or xs k d) → (x : X) → Contains (take (k + 1) xs) x → P x
-all_front P k xs d within front here x is =
-    elim (Contains-append_cases (take k xs) (get_or xs k d ∷ []) x (subst (λ ys. Contains ys x) (take_more xs k d within) is)) [
-      | inl early ↦ front x early
-      | inr last ↦
-          elim (cons_cases (get_or xs k d) [] x last) [
-            | inl e ↦ subst P e here
-            | inr none ↦ absurd (none_in_nil x none)
-          ]
-    ]
-
--- what holds of all first elements holds of all
-pub all_of_them : {X : Type 0} (P : X → Type 0) (k : ℕ) (xs : List X) → length xs ≤ k → ((x : X) → Contains (take k xs) x → P x) → (x : X)
-    → Contains xs x → P x
-all_of_them P k xs long front x is = front x (subst (λ ys. Contains ys x) (sym (take_all k xs long)) is)
 
 pub parting_same : (held : List Collection) (from to : ℕ) (parts ts : List SpanRanges) (rest ls : List Collection) (seams bs : List ℕ)
     (start n : ℕ) → Parting held from to parts rest seams start → ts ≡ parts → ls ≡ rest → bs ≡ seams → start ≡ n

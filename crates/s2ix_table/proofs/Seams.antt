@@ -65,23 +65,42 @@ seam_joined t u over next_over one other last first same =
     ∙ ap₂ (λ xs ys. is_same (xs ++ over) (ys ++ next_over)) last first
     ∙ is_same_as over next_over same
 
--- and two if not
+-- and only then
+pub seam_none : (t u : SpanRanges) (over next_over : Collection) → IsSpanTable t → IsSpanTable u → t.to ≡ u.from
+    → ShareNoPair t.held next_over → ShareNoPair u.held over → is_joined (with_over over t.ranges) (with_over next_over u.ranges) ≡ true
+    → ((range_at t.ranges (length t.ranges - 1)).contents ≡ []) × ((range_at u.ranges 0).contents ≡ []) × (over ≡ next_over)
+seam_none t u over next_over one other meet own next joined =
+    let xs = (range_at t.ranges (length t.ranges - 1)).contents in
+    let ys = (range_at u.ranges 0).contents in
+    let some = one.table.some in
+    let is = same_is (xs ++ over) (ys ++ next_over) (sym (joined_contents t.ranges u.ranges over next_over some other.table.some) ∙ joined) in
+    let none = none_light t.held u.held over next_over xs ys (λ h held. in_part t (length t.ranges - 1) h one (omega arith) held)
+    (λ h held. in_part u 0 h other other.table.some held) (λ h held there. share_none t u h one other meet held there) own next is in
+    (none.0, none.1, ap (λ cs. cs ++ over) (sym none.0) ∙ is ∙ ap (λ cs. cs ++ next_over) none.1)
+
 pub seam_apart : (t u : SpanRanges) (over next_over : Collection) → IsSpanTable t → IsSpanTable u → t.to ≡ u.from
     → ShareNoPair t.held next_over → ShareNoPair u.held over
     → ((range_at t.ranges (length t.ranges - 1)).contents ≡ [] → (range_at u.ranges 0).contents ≡ [] → over ≡ next_over → ⊥)
     → is_joined (with_over over t.ranges) (with_over next_over u.ranges) ≡ false
 seam_apart t u over next_over one other meet own next differ =
-    let xs = (range_at t.ranges (length t.ranges - 1)).contents in
-    let ys = (range_at u.ranges 0).contents in
-    let some = one.table.some in
-    joined_contents t.ranges u.ranges over next_over some other.table.some
-    ∙ elim (cases_Bool (is_same (xs ++ over) (ys ++ next_over))) [
-      | inl same ↦
-          (let is = same_is (xs ++ over) (ys ++ next_over) same in
-          let none = none_light t.held u.held over next_over xs ys (λ h held. in_part t (length t.ranges - 1) h one (omega arith) held)
-          (λ h held. in_part u 0 h other other.table.some held) (λ h held there. share_none t u h one other meet held there) own next is in
-          absurd (differ none.0 none.1 (ap (λ cs. cs ++ over) (sym none.0) ∙ is ∙ ap (λ cs. cs ++ next_over) none.1)))
+    elim (cases_Bool (is_joined (with_over over t.ranges) (with_over next_over u.ranges))) [
+      | inl joined ↦ (let none = seam_none t u over next_over one other meet own next joined in absurd (differ none.0 none.1 none.2))
       | inr apart ↦ apart
+    ]
+
+-- of two ways to lie under heavy pairs one joins them if the other does, if in both the heavy pairs over them are the same, or in neither
+pub seam_alike : (t u : SpanRanges) (a b c d : Collection) → IsSpanTable t → IsSpanTable u → t.to ≡ u.from → ShareNoPair t.held b
+    → ShareNoPair u.held a → ShareNoPair t.held d → ShareNoPair u.held c → (a ≡ b → c ≡ d) → (c ≡ d → a ≡ b)
+    → is_joined (with_over a t.ranges) (with_over b u.ranges) ≡ is_joined (with_over c t.ranges) (with_over d u.ranges)
+seam_alike t u a b c d one other meet own next own_too next_too to back =
+    elim (cases_Bool (is_joined (with_over a t.ranges) (with_over b u.ranges))) [
+      | inl joined ↦
+          (let none = seam_none t u a b one other meet own next joined in
+          joined ∙ sym (seam_joined t u c d one other none.0 none.1 (to none.2)))
+      | inr apart ↦
+          apart
+          ∙ sym (seam_apart t u c d one other meet own_too next_too
+          (λ last first same. false≢true (sym apart ∙ seam_joined t u a b one other last first (back same))))
     ]
 
 -- ---- what answers lead to

@@ -254,8 +254,9 @@ impl FacedTable {
     /// cell touches are made anew or, if the cell is heavy, the chunk that has the entry's pair; the others stay. With q pairs on the f faces
     /// on which the change has entries and n in all it reads q to q + 2 * f * digits(n + 1) pairs, for the binary digits of n + 1: a whole
     /// face at once, which a bag hands on as it is. Besides, it takes O(p + m + k) for m entries and the k pairs of what is made anew, and
-    /// O((p + m) log c + c) more under c chunks. A face of q pairs that is laid in layers anew takes O(q log q). `OutOfMemory` if a growth
-    /// is refused: then the table shows the same pairs, ranges and borders, with each pair at its place, and it has read at most so many.
+    /// O((p + m) log c + c) more under c chunks; but if all entries fall into one chunk, it takes O(log c + m + k), and O(c) more if a copy
+    /// shares the heavy pairs. A face of q pairs that is laid in layers anew takes O(q log q). `OutOfMemory` if a growth is refused: then the
+    /// table shows the same pairs, ranges and borders, with each pair at its place, and it has read at most so many.
     pub fn rebuild<B: PairReader>(
         &mut self,
         alloc: Global,
@@ -309,7 +310,7 @@ impl FacedTable {
         }
     }
 
-    // The same of a change that has entries on one face only.
+    // The same of a change that has entries on one face only. If they fall into one chunk, nothing but this chunk is made anew.
     fn change_face(
         &mut self,
         alloc: Global,
@@ -330,6 +331,9 @@ impl FacedTable {
         ensures places_stay { OnErr result ((place : FacedPlace)
             → ⟦<FacedTable as RangeTable>⟧.chain self.new place ≡ ⟦<FacedTable as RangeTable>⟧.chain self.old place) }
     {
+        if let Some(chunk) = self.chunk_after(alloc, face, lists, change)? {
+            return self.put_chunk(alloc, face, chunk);
+        }
         let new = self.face_after(alloc, face, lists, change)?;
         all_are_chunks(&self.heavy);
         let first = self.faces[usize::from(face)];
@@ -388,7 +392,7 @@ impl FacedTable {
     }
 
     // A face: its parts and the heavy pairs over them.
-    fn face(&self, face: u8) -> Face<'_>
+    pub(crate) fn face(&self, face: u8) -> Face<'_>
         requires { face < 6 }
         ensures face { result.face ≡ face }
         ensures parts { spans_of result.parts.now ≡ parts_of_face (spans_of self.now.parts.items) self.now.faces face }

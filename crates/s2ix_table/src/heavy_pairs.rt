@@ -1,18 +1,21 @@
-ghost use Rattle.std.specs.Prelude.{set, ◌≡◌, ◌≢◌, ◌↔◌, ℕ, ◌%◌, ◌<◌, ◌≤◌, ◌∷◌, [], IfOk, IsTrue, drop};
+ghost use Rattle.std.specs.Prelude.{set, ◌≡◌, ◌≢◌, ◌↔◌, ℕ, ◌%◌, ◌<◌, ◌≤◌, ◌∷◌, [], Contains, IfOk, IfSome, IsTrue, OnErr, OnOk, drop, length};
 ghost use Rattle.s2id_core.specs.Span.{leaf_end};
 ghost use Rattle.s2ix_bag_lists.specs.Faces.{all_of};
+ghost use Rattle.s2ix_bag_pairs.specs.Change.{IsChangeList, changed};
+ghost use Rattle.s2ix_bag_pairs.specs.declared.pair.Entry.{Entry as EntryOf};
 ghost use Rattle.s2ix_table_walk.specs.Contents.{contents_at};
 ghost use Rattle.s2ix_table_walk.specs.Places.{IsPlace, LeadsTo};
 ghost use Rattle.s2ix_table_spans.specs.Blocks.{HoldsCell};
+ghost use Rattle.s2ix_table_heavy.specs.ChangedChunk.{FitsChunk, LieAlike};
 ghost use Rattle.s2ix_table_heavy.specs.Chunks.{AreChunks};
 ghost use Rattle.s2ix_table_heavy.specs.HeavyChains.{heavy_chain};
 ghost use Rattle.s2ix_table.specs.Layered.{chunks_on};
 
 use s2id_core::{CellId, FACES, LEAF_END, OutOfMemory};
 use s2ix_bag_lists::HeldList;
-use s2ix_bag_pairs::Held;
+use s2ix_bag_pairs::{Entry, Held};
 use s2ix_table_heavy::laws::chunks_are_in_order;
-use s2ix_table_heavy::{HeavyPlace, HeavyTable};
+use s2ix_table_heavy::{ChangedChunk, HeavyPlace, HeavyTable};
 use std::alloc::{AllocError, Global};
 use std::marker::Model;
 use std::sync::Arc;
@@ -115,6 +118,56 @@ impl HeavyPairs {
         }
     }
 
+    // What a change makes of the chunk into which all its entries fall, as `HeavyTable::changed_chunk` does it.
+    pub(crate) fn changed_chunk(
+        &self,
+        alloc: Global,
+        entries: &[Entry],
+        max_part_len: usize,
+    ) -> Result<Option<ChangedChunk>, OutOfMemory>
+        requires { IsChangeList entries.now }
+        ensures fits { IfOk result (λ made. IfSome made (λ chunk. length (changed (all_of self.now) entries.now) ≤ 1000000
+            → FitsChunk self.now chunk.number chunk.held)) }
+        ensures pairs { IfOk result (λ made. IfSome made (λ chunk.
+            all_of (set self.now chunk.number chunk.held) ≡ changed (all_of self.now) entries.now)) }
+        ensures alike { IfOk result (λ made. IfSome made (λ chunk. length (changed (all_of self.now) entries.now) ≤ 1000000
+            → LieAlike self.now (set self.now chunk.number chunk.held))) }
+        ensures cells { IfOk result (λ made. IfSome made (λ _. (e : EntryOf) → Contains entries.now e
+            → HoldsCell (all_of self.now) e.pair.cell)) }
+    {
+        match &self.shared {
+            Some(table) => table.changed_chunk(alloc, entries, max_part_len),
+            None => Ok(None),
+        }
+    }
+
+    // Puts a changed chunk into its place. O(1) if no copy shares the pairs, else O(c) for c chunks. `OutOfMemory` if a growth is refused, or
+    // a chunk is shared too often: then all pairs stay.
+    pub(crate) fn put_chunk(
+        &mut self,
+        alloc: Global,
+        chunk: ChangedChunk,
+    ) -> Result<(), OutOfMemory>
+        requires { FitsChunk self.old chunk.number chunk.held }
+        ensures put { OnOk result (self.new ≡ set self.old chunk.number chunk.held) }
+        ensures stay { OnErr result (self.new ≡ self.old) }
+    {
+        let Some(shared) = &mut self.shared else {
+            unreachable!();
+        };
+        match Arc::get_mut(shared) {
+            Some(table) => {
+                table.set_chunk(chunk);
+                Ok(())
+            }
+            None => {
+                let table = shared.with_chunk(alloc, chunk)?;
+                *shared = Arc::new(alloc, table)?;
+                Ok(())
+            }
+        }
+    }
+
     // Whether a pair has this cell. O(log c) for c chunks.
     pub(crate) fn has_cell(&self, cell: CellId) -> bool
         ensures { IsTrue result ↔ HoldsCell (all_of self.now) cell }
@@ -159,6 +212,21 @@ pub(crate) fn all_are_chunks(heavy: &[HeavyPairs; FACES])
     are_chunks(&heavy[3]);
     are_chunks(&heavy[4]);
     are_chunks(&heavy[5]);
+}
+
+// Puts a changed chunk of a face into its place, as `HeavyPairs::put_chunk` does it.
+pub(crate) fn put_chunk_on(
+    alloc: Global,
+    heavy: &mut [HeavyPairs; FACES],
+    face: usize,
+    chunk: ChangedChunk,
+) -> Result<(), OutOfMemory>
+    requires six { face < 6 }
+    requires fits { FitsChunk (chunks_on heavy.old face) chunk.number chunk.held }
+    ensures put { OnOk result (heavy.new ≡ set heavy.old face (set (chunks_on heavy.old face) chunk.number chunk.held)) }
+    ensures stay { OnErr result (heavy.new ≡ heavy.old) }
+{
+    heavy[face].put_chunk(alloc, chunk)
 }
 
 // Puts the pairs of a face in the place of those that were there.

@@ -49,6 +49,7 @@ mod face_parts;
 mod faced_table;
 mod heavy_after;
 mod heavy_pairs;
+mod heavy_within;
 pub mod laws;
 mod layers_after;
 mod layout;

@@ -118,13 +118,13 @@ place_there chunks place are lt =
 
 -- ---- the chain of a mark
 
-chain_outwards : (marks : Collection) (k : ℕ) (m : Held) → IsCollection marks → slice_get marks k ≡ Some m → Outwards (chain_of marks k)
+pub chain_outwards : (marks : Collection) (k : ℕ) (m : Held) → IsCollection marks → slice_get marks k ≡ Some m → Outwards (chain_of marks k)
 unfolding chain_of
 chain_outwards marks k m rises is =
     choice_outwards (first_of m.pair.cell) (is_on_chain marks k) marks rises
     (λ h i t. (outward-true m h (sym (on_at marks k m h is) ∙ t)).over)
 
-on_chain : (marks : Collection) (k : ℕ) (m h : Held) → slice_get marks k ≡ Some m → Contains (chain_of marks k) h
+pub on_chain : (marks : Collection) (k : ℕ) (m h : Held) → slice_get marks k ≡ Some m → Contains (chain_of marks k) h
     → Contains marks h × IsOutward m h
 on_chain marks k m h is i = let r = in_chain marks k h i in (r.0, outward-true m h (sym (on_at marks k m h is) ∙ r.1))
 

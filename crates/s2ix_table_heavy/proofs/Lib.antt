@@ -6,4 +6,7 @@ pub mod OnePlace
 pub mod MakingMarks
 pub mod CellSearch
 pub mod Kept
+pub mod ChangedCells
+pub mod Alike
+pub mod ChangingChunk
 pub mod Cutting

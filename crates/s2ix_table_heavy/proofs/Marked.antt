@@ -174,13 +174,18 @@ marks_among chunks marks are mark ms ns each_m each_n same m i =
     let w = in_chunks_of chunks ns first (subst (λ (c : Collection). Contains c first) same (chunks_of_has chunks ms m first i held)) in
     subst (Contains ns) (sym (same_mark chunks marks are mark m w.0 first is_m (each_n w.0 w.1) held w.2)) w.1
 
+-- marks by depth that stand for the same pairs are the same
+pub same_marks : (chunks : List Collection) (marks : Collection) → AreChunks chunks → AreMarks chunks marks → (ms ns : Collection) → Outwards ms
+    → Outwards ns → ((m : Held) → Contains ms m → Contains marks m) → ((n : Held) → Contains ns n → Contains marks n)
+    → chunks_of chunks ms ≡ chunks_of chunks ns → ms ≡ ns
+same_marks chunks marks are mark ms ns ms_rise ns_rise each_m each_n same =
+    same_members ms ns ms_rise ns_rise (marks_among chunks marks are mark ms ns each_m each_n same)
+    (marks_among chunks marks are mark ns ms each_n each_m (sym same))
+
 -- over two leaves with the same pairs lie the same marks
 pub marks_over : (chunks : List Collection) (marks : Collection) → AreChunks chunks → AreMarks chunks marks → IsCollection marks → (q r : ℕ)
     → contents_at q (all_of chunks) ≡ contents_at r (all_of chunks) → contents_at q marks ≡ contents_at r marks
 marks_over chunks marks are mark rises q r same =
-    let each = λ (n : ℕ) (m : Held) (i : Contains (contents_at n marks) m). (in_contents n marks m i).0 in
-    let told : chunks_of chunks (contents_at q marks) ≡ chunks_of chunks (contents_at r marks) =
-    sym (contents_by_marks chunks marks are mark rises q) ∙ same ∙ contents_by_marks chunks marks are mark rises r in
-    same_members (contents_at q marks) (contents_at r marks) (contents_outwards q marks rises) (contents_outwards r marks rises)
-    (marks_among chunks marks are mark (contents_at q marks) (contents_at r marks) (each q) (each r) told)
-    (marks_among chunks marks are mark (contents_at r marks) (contents_at q marks) (each r) (each q) (sym told))
+    same_marks chunks marks are mark (contents_at q marks) (contents_at r marks) (contents_outwards q marks rises) (contents_outwards r marks rises)
+    (λ m i. (in_contents q marks m i).0) (λ m i. (in_contents r marks m i).0)
+    (sym (contents_by_marks chunks marks are mark rises q) ∙ same ∙ contents_by_marks chunks marks are mark rises r)

@@ -1,3 +1,4 @@
 pub mod Chunks
+pub mod ChangedChunk
 pub mod HeavyChains
 pub mod HeavyTable

@@ -17,16 +17,18 @@
 //! with the chunk's cell and, as label, the chunk's number. The ranges of leaves are those of the marks, and depend on no label. Over a
 //! leaf, the pairs are those of the chunks whose marks lie over it, in the order of the marks.
 //!
-//! The caller says which cells are heavy, and how long a chunk is. A table holds at most 1,000,000 pairs. To exchange, add or drop a chunk, the
-//! table is made anew over the same lists, in O(c) for c chunks.
+//! The caller says which cells are heavy, and how long a chunk is. A table holds at most 1,000,000 pairs. A chunk with other pairs of
+//! its cell takes its place in O(1). To add or drop a chunk, the table is made anew over the same lists, in O(c) for c chunks.
 #![tactic(auto)]
 
+mod changed_chunk;
 mod cut;
 mod heavy_place;
 mod heavy_table;
 pub mod laws;
 mod marks;
 
+pub use changed_chunk::ChangedChunk;
 pub use cut::cut_into_chunks;
 pub use heavy_place::HeavyPlace;
 pub use heavy_table::HeavyTable;

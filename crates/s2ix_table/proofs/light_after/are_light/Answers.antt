@@ -4,7 +4,7 @@ use Rattle.std.proofs.lemmas.List.Elements.{Contains-get_or}
 use Rattle.s2ix_bag_lists.specs.Faces.{all_of}
 use Rattle.s2ix_bag_pairs.specs.declared.pair.Entry.{Entry}
 use Rattle.s2ix_table_spans.specs.Blocks.{HoldsCell}
-use Rattle.s2ix_table.proofs.Parting.{all_front, all_of_them}
+use Rattle.s2ix_table_heavy.proofs.ChangedCells.{all_front, all_of_them}
 use Rattle.s2ix_table.proofs.light_after.are_light.Goals as goal
 
 pub returns-then-has_cell : goal.returns-then-has_cell

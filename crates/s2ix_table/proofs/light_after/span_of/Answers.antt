@@ -1,7 +1,7 @@
 use Rattle.std.proofs.Common.{◌≤◌, subst, arith}
 use Rattle.s2id_core.specs.CellId.{first_of, end_of}
 use Rattle.s2ix_bag_pairs.specs.declared.pair.Entry.{Entry}
-use Rattle.s2ix_table.proofs.Parting.{all_front, all_of_them}
+use Rattle.s2ix_table_heavy.proofs.ChangedCells.{all_front, all_of_them}
 use Rattle.s2ix_table.proofs.light_after.span_of.Goals as goal
 
 pub loop-entry-preserved : goal.loop-entry-preserved

@@ -2,7 +2,7 @@ use Rattle.std.proofs.Common.{◌≤◌, ap, ◌∙◌, arith, subst}
 use Rattle.s2id_core.specs.CellId.{end_of}
 use Rattle.s2id_core.specs.declared.cell_id.CellId.{CellId}
 use Rattle.s2ix_bag_pairs.specs.declared.pair.Held.{Held}
-use Rattle.s2ix_table.proofs.Parting.{all_front, all_of_them}
+use Rattle.s2ix_table_heavy.proofs.ChangedCells.{all_front, all_of_them}
 use Rattle.s2ix_table.proofs.parts.greatest_end.Goals as goal
 
 pub loop-h-preserved : goal.loop-h-preserved

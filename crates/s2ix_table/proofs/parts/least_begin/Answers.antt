@@ -3,7 +3,7 @@ use Rattle.s2id_core.specs.CellId.{raw_of, first_of}
 use Rattle.s2id_core.specs.declared.cell_id.CellId.{CellId}
 use Rattle.s2id_core.proofs.Nested.{span}
 use Rattle.s2ix_bag_pairs.specs.declared.pair.Held.{Held}
-use Rattle.s2ix_table.proofs.Parting.{all_front, all_of_them}
+use Rattle.s2ix_table_heavy.proofs.ChangedCells.{all_front, all_of_them}
 use Rattle.s2ix_table.proofs.parts.least_begin.Goals as goal
 
 pub loop-h-preserved : goal.loop-h-preserved

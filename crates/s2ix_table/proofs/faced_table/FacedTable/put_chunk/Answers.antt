@@ -1,0 +1,23 @@
+-- Under the changed chunk all that is kept of the parts is right, as it is if the chunk stays.
+use Rattle.std.proofs.Common.{◌≡◌, List, set, subst}
+use Rattle.std.specs.Prelude.{OnOk}
+use Rattle.s2ix_bag_pairs.specs.Collection.{Collection}
+use Rattle.s2ix_table.specs.FaceSpans.{overs_of, spans_of}
+use Rattle.s2ix_table.specs.Layered.{chunks_on}
+use Rattle.s2ix_table.proofs.SameOffsets.{put_or_kept, still_sound}
+use Rattle.s2ix_table.proofs.Sound.{IsSound}
+use Rattle.s2ix_table.proofs.faced_table.FacedTable.put_chunk.Goals as goal
+
+pub invariant_of-self : goal.invariant_of-self
+invariant_of-self c =
+    let t = c.args.self.now in
+    let Sound : List (List Collection) → Type 0 =
+    λ hs. IsSound (spans_of t.parts.items) (overs_of t.parts.items) t.starts.items t.offsets.items hs t.blocks t.faces t.count in
+    let put = set t.heavy c.args.face (set (chunks_on t.heavy c.args.face) c.args.chunk.number c.args.chunk.held) in
+    let sound = put_or_kept c.put_chunk_on.result Sound c.put_chunk_on.new.heavy t.heavy put
+    (subst (λ n. OnOk c.put_chunk_on.result (c.put_chunk_on.new.heavy ≡ set t.heavy n (set (chunks_on t.heavy n) c.args.chunk.number c.args.chunk.held)))
+    c.from.ensures c.put_chunk_on.ensures.put)
+    c.put_chunk_on.ensures.stay
+    (still_sound t.joined t.blocked t.layered c.all_are_chunks.ensures c.requires.layout)
+    (record { joined = t.joined; blocked = t.blocked; layered = t.layered; rises = t.rises; table = t.table; bordered = t.bordered; once = t.once }) in
+    record { joined = sound.joined; blocked = sound.blocked; layered = sound.layered; rises = sound.rises; table = sound.table; bordered = sound.bordered; once = sound.once }
