@@ -7,6 +7,8 @@
 #![tactic(auto)]
 
 #[cfg(test)]
+mod chunk_tests;
+#[cfg(test)]
 mod heavy_tests;
 #[cfg(test)]
 mod many_tests;
