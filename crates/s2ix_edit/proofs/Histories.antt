@@ -1,5 +1,5 @@
 -- Changes that a store is led by.
-use Rattle.std.proofs.Common.{◌≡◌, ◌+◌, ◌<◌, ◌≤◌, nat_lt, ℕ, Bool, true, false, cond, List, [], ◌∷◌, All, length, map, reverse, take, Option, Some, None, refl, sym, ap, ap₂, ◌∙◌, subst, arith, ltb-false, le-ltb}
+use Rattle.std.proofs.Common.{◌≡◌, ◌+◌, ◌<◌, ◌≤◌, nat_lt, ℕ, Bool, true, false, cond, List, [], ◌∷◌, All, length, map, reverse, Option, Some, None, refl, sym, ap, ap₂, ◌∙◌, subst, arith, ltb-false, le-ltb}
 use Rattle.std.specs.Option.{option_map, option_or}
 use Rattle.std.proofs.lemmas.List.{length-reverse}
 use Rattle.std.proofs.lemmas.List.Elements.{All-cons, All-head, All-nil, All-tail}
@@ -7,16 +7,16 @@ use Rattle.s2ix_bag_pairs.specs.declared.pair.Entry.{Entry}
 use Rattle.s2ix_bag_pairs.specs.Change.{changed, inverse_of, IsChangeList}
 use Rattle.s2ix_bag_pairs.specs.Collection.{LimitedCollection, IsBag}
 use Rattle.s2ix_bag_pairs.specs.Limits.{changes_limit}
-use Rattle.s2ix_bag.specs.Replay.{IsReplayError, Numbered, back_of, first_refusal, rewind_refusal, with_numbers}
-use Rattle.s2ix_bag.proofs.Forth.{first_taken, refusal_after, rest_taken}
+use Rattle.s2ix_bag.specs.Replay.{Numbered, back_of, first_refusal, rewind_refusal, with_numbers}
+use Rattle.s2ix_bag.proofs.Forth.{first_taken, rest_taken}
 use Rattle.s2ix_bag.specs.declared.replay_error.ReplayError.{ReplayError}
 use Rattle.s2ix_bag.specs.declared.replay_error.ReplayError.TheVariants as replay
 use Rattle.s2ix_edit_plan.specs.State.{State, earlier, history_of, later}
 use Rattle.s2ix_edit_plan.proofs.Edited.{length-earlier}
 use Rattle.s2ix_edit_plan.specs.History.{History}
 use Rattle.s2ix_edit.specs.declared.history_error.HistoryError.{HistoryError}
-use Rattle.s2ix_edit.specs.declared.history_error.HistoryError.TheVariants.{JournalFull, NoChange, Mismatch, TooManyCopies, TooManyPairs, OutOfMemory}
-use Rattle.s2ix_edit.specs.Given.{IsHistoryError, first_empty, first_empty_from, history_error, history_refusal, led_by, record_refusal}
+use Rattle.s2ix_edit.specs.declared.history_error.HistoryError.TheVariants.{JournalFull, NoChange}
+use Rattle.s2ix_edit.specs.Given.{first_empty, first_empty_from, history_error, history_refusal, led_by, record_refusal}
 use Rattle.s2ix_edit.specs.Shortened.{up_to_cursor}
 use Rattle.s2ix_edit.specs.Steps.{with_held}
 use Rattle.s2ix_edit.specs.Store.{CanGoBack, IsStore}
@@ -30,10 +30,6 @@ pub past_some : (number : ℕ) (es : List Entry) (rest : List (List Entry)) → 
     → first_empty_from number (es ∷ rest) ≡ first_empty_from (number + 1) rest
 past_some number [] rest some = absurd (some refl)
 past_some number (e ∷ es) rest some = refl
-
-pub at_none : (number : ℕ) (es : List Entry) (rest : List (List Entry)) → length es ≡ 0 → first_empty_from number (es ∷ rest) ≡ Some number
-at_none number [] rest none = refl
-at_none number (e ∷ es) rest none = absurd (omega (arith, none))
 
 -- none is found if each has entries
 pub none_empty : (number : ℕ) (changes : List (List Entry)) → All (λ es. 0 < length es) changes → first_empty_from number changes ≡ None
@@ -139,54 +135,7 @@ store_is_led s st =
     (few_are_recordable (changes_limit s.bag.limits) s.done (omega (arith, within_limit)) (some_done s st))
     (done_is_taken_back s st)
 
--- the first of some changes is taken if all are
-pub first_is_taken : (bag : LimitedCollection) (cs : List Numbered) → first_refusal bag cs ≡ None → first_refusal bag (take 1 cs) ≡ None
-first_is_taken bag [] none = refl
-first_is_taken bag (c ∷ rest) none = refusal_after bag c [] (first_taken bag c rest none)
-
 -- ---- the error that tells it
-
-pub told_as_it_is : (error : HistoryError) (refusal : Option HistoryError) → refusal ≡ Some error → IsHistoryError error refusal
-told_as_it_is JournalFull refusal is = is
-told_as_it_is (NoChange change) refusal is = is
-told_as_it_is (Mismatch change entry) refusal is = is
-told_as_it_is (TooManyCopies change) refusal is = is
-told_as_it_is (TooManyPairs change) refusal is = is
-told_as_it_is OutOfMemory refusal is = tt
-
--- what can't be recorded is refused for that
-pub not_recordable : (first : Option HistoryError) (refused : Option ReplayError) (error : HistoryError) → first ≡ Some error
-    → IsHistoryError error (option_or first (option_map history_error refused))
-not_recordable first refused error is =
-    told_as_it_is error (option_or first (option_map history_error refused))
-    (ap (λ (r : Option HistoryError). option_or r (option_map history_error refused)) is)
-
--- and never for want of memory
-no_memory_in : (full : Bool) (empty : Option ℕ) → unrecorded full empty ≡ Some OutOfMemory → ⊥
-no_memory_in true empty is = cc
-no_memory_in false (Some number) is = cc
-no_memory_in false None is = cc
-
-pub recorded_without_memory : (room : ℕ) (changes : List (List Entry)) → record_refusal room changes ≡ Some OutOfMemory → ⊥
-recorded_without_memory room changes is = no_memory_in (nat_lt room (length changes)) (first_empty changes) is
-
--- else the bag refuses it
-pub not_taken : (first : Option HistoryError) (refused : Option ReplayError) (error : ReplayError) → first ≡ None
-    → IsReplayError error refused → IsHistoryError (history_error error) (option_or first (option_map history_error refused))
-not_taken first refused (replay.Mismatch change entry) none is =
-    ap₂ (λ (f : Option HistoryError) (r : Option ReplayError). option_or f (option_map history_error r)) none is
-not_taken first refused (replay.TooManyCopies change) none is =
-    ap₂ (λ (f : Option HistoryError) (r : Option ReplayError). option_or f (option_map history_error r)) none is
-not_taken first refused (replay.TooManyPairs change) none is =
-    ap₂ (λ (f : Option HistoryError) (r : Option ReplayError). option_or f (option_map history_error r)) none is
-not_taken first refused replay.OutOfMemory none is = tt
-
--- it was want of memory if that is told
-pub memory_told : (error : ReplayError) → history_error error ≡ OutOfMemory → error ≡ replay.OutOfMemory
-memory_told (replay.Mismatch change entry) is = cc
-memory_told (replay.TooManyCopies change) is = cc
-memory_told (replay.TooManyPairs change) is = cc
-memory_told replay.OutOfMemory is = refl
 
 -- ---- the history
 

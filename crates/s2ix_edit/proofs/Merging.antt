@@ -1,11 +1,12 @@
 -- Changes that follow each other, as one.
 use Rattle.std.proofs.Common.{◌≡◌, ◌≢◌, ◌⊎◌, ℕ, ◌+◌, ◌<◌, ◌≤◌, List, [], ◌∷◌, ◌++◌, drop, get_or, length, take, Option, Some, None, refl, sym, ap, ap₂, ◌∙◌, subst, ⊎_elim, arith, eq-eqb, ne_eqb, lt-ltb, le-ltb}
 use Rattle.std.proofs.lemmas.Bool.{cases_eq, cases_order, cond-true, cond-false}
-use Rattle.std.proofs.lemmas.List.{append-nil, append_assoc, drop_all, drop_more, take-append-drop}
+use Rattle.std.proofs.lemmas.List.{append-nil, append_assoc, drop_all, take-append-drop}
 use Rattle.std.proofs.lemmas.Option.{some_pair_parts}
 use Rattle.s2ix_bag_lists.specs.Apply.{AreBefore}
 use Rattle.s2ix_bag_lists.proofs.Applied.{before_from_counts, before_rest, change_between-changed}
 use Rattle.s2ix_bag_lists.proofs.Comparing.{entry_none, entry_some}
+use Rattle.s2ix_bag_lists.proofs.Unsorted.{split_at}
 use Rattle.s2ix_bag_lists.proofs.Walks.{change_drop}
 use Rattle.s2ix_bag_pairs.specs.declared.pair.Entry.{Entry}
 use Rattle.s2ix_bag_pairs.specs.declared.pair.Pair.{Pair}
@@ -76,9 +77,6 @@ pub record Merging (es fs out : List Entry) (i k : ℕ) : Type 0 where
   pub older : i ≤ length es
   pub newer : k ≤ length fs
   pub made : out ++ followed_by (drop i es) (drop k fs) ≡ followed_by es fs
-
-split_at : (es : List Entry) (i : ℕ) (e : Entry) → i < length es → e ≡ get_or es i e → drop i es ≡ e ∷ drop (i + 1) es
-split_at es i e within is = drop_more es i e within ∙ ap (λ x. x ∷ drop (i + 1) es) (sym is)
 
 rest_rises : (fs : List Entry) (k : ℕ) (f : Entry) → drop k fs ≡ f ∷ drop (k + 1) fs → IsChangeList fs → IsChangeList (f ∷ drop (k + 1) fs)
 rest_rises fs k f split fs_is = let Rises : List Entry → Type 0 = λ xs. IsChangeList xs in subst Rises split (change_drop 0 k fs fs_is)

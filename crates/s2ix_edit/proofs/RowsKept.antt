@@ -1,5 +1,5 @@
 -- Rows that are added to a store or removed from it lead to a store.
-use Rattle.std.proofs.Common.{◌≡◌, ◌-◌, ◌≤◌, ◌==◌, ℕ, Bool, true, false, cond, List, [], ◌∷◌, Option, Some, None, refl, sym, ap, ◌∙◌, subst, arith, leb-false}
+use Rattle.std.proofs.Common.{◌≡◌, ◌-◌, ◌≤◌, Bool, true, false, cond, List, [], ◌∷◌, Option, Some, None, refl, sym, ◌∙◌, subst, arith, leb-false}
 use Rattle.std.proofs.lemmas.Bool.{eqb-false}
 use Rattle.s2ix_bag_lists.proofs.Lengths.{small_changed}
 use Rattle.s2ix_bag_lists.proofs.Refusals.{made_is_bag, taken_from_none}
@@ -9,15 +9,14 @@ use Rattle.s2ix_bag_pairs.specs.Limits.{count_limit}
 use Rattle.s2ix_bag_pairs.specs.Pair.{rank_of}
 use Rattle.s2ix_bag_pairs.proofs.Collections.{set_keeps}
 use Rattle.s2ix_edit_plan.specs.declared.errors.EditError.TheVariants.{JournalFull}
-use Rattle.s2ix_edit_plan.specs.declared.errors.RemoveError.{RemoveError}
 use Rattle.s2ix_edit_plan.specs.declared.errors.RemoveError.TheVariants as remove
-use Rattle.s2ix_edit_plan.specs.Removals.{TakesRows, first_not_held, removal_change, removal_plan_refusal, removal_refusal, with_fewer, without_rows}
+use Rattle.s2ix_edit_plan.specs.Removals.{TakesRows, removal_change, removal_plan_refusal, removal_refusal, with_fewer, without_rows}
 use Rattle.s2ix_edit_plan.specs.Rows.{PlansRows, rows_change, rows_plan_refusal, rows_refusal, with_rows}
 use Rattle.s2ix_edit_plan.specs.State.{State}
 use Rattle.s2ix_edit_plan.proofs.Lesser.{bag_small, no_more_set}
 use Rattle.s2ix_edit_plan.proofs.Plans.{makes_between}
 use Rattle.s2ix_edit_plan.proofs.Refused.{some_entries}
-use Rattle.s2ix_edit_plan.proofs.Removals.{some_removed, without_rows_keeps}
+use Rattle.s2ix_edit_plan.proofs.Removals.{rows_accepted, some_removed, without_rows_keeps}
 use Rattle.s2ix_edit_plan.proofs.Rows.{with_rows_keeps}
 use Rattle.s2ix_edit.specs.Steps.{after_removal, after_rows, with_held}
 use Rattle.s2ix_edit.specs.Store.{IsStore}
@@ -68,27 +67,10 @@ without_is_bag bag [] b = b
 without_is_bag bag (row ∷ rows) b =
     without_is_bag (with_held bag (with_fewer row.pair row.count bag.held)) rows (fewer_is_bag bag row b)
 
--- rows that aren't refused are held, and some have copies
-refused_by : Bool → Option ℕ → Option RemoveError
-refused_by nothing (Some place) = Some (remove.NotHeld place)
-refused_by nothing None = cond nothing (Some remove.NoChange) None
-
-refusal_is : (hs : Collection) (rows : List Held) (found : Option ℕ) → first_not_held rows hs ≡ found
-    → removal_plan_refusal hs rows ≡ refused_by (copies_in rows == 0) found
-unfolding refused_by
-refusal_is hs rows found is = ap (λ o. refused_by (copies_in rows == 0) o) is
-
-both_held : (place : Option ℕ) (nothing : Bool) → refused_by nothing place ≡ None → (place ≡ None) × (nothing ≡ false)
-unfolding refused_by
-both_held (Some place) nothing none = cc
-both_held None true none = cc
-both_held None false none = (refl, refl)
-
 pub removal_keeps : (s : State) (rows : List Held) → IsStore s → removal_refusal s rows ≡ None → IsStore (after_removal s rows)
 removal_keeps s rows st none =
     let both = not_full _ remove.JournalFull (removal_plan_refusal s.bag.held rows) none in
-    let found = first_not_held rows s.bag.held in
-    let held = both_held found (copies_in rows == 0) (sym (refusal_is s.bag.held rows found refl) ∙ both.1) in
+    let held = rows_accepted s.bag.held rows both.1 in
     let new = without_rows rows s.bag.held in
     let es = removal_change s.bag.held rows in
     let makes = makes_between s.bag new es st.bag.rises (without_rows_keeps rows s.bag.held st.bag.rises) refl in
