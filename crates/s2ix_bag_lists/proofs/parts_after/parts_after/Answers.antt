@@ -10,12 +10,25 @@ use Rattle.s2ix_bag_lists.specs.Parts.{AreFilled}
 use Rattle.s2ix_bag_lists.proofs.FaceByFace.{IsOwnChange}
 use Rattle.s2ix_bag_lists.proofs.Joins.{filled_take}
 use Rattle.s2ix_bag_lists.proofs.Making.{Making, IsNext, begins_from, making_own, making_step}
+use Rattle.s2ix_bag_lists.proofs.parts_after.parts_after.Goals.{After-entries_up_to_part}
 use Rattle.s2ix_bag_lists.proofs.parts_after.parts_after.Goals as goal
 
 pub add_all-requires-clause-some : goal.add_all-requires-clause-some
 add_all-requires-clause-some c =
     subst (λ (x : List Collection). AreFilled x) (sym c.split_at.ensures.front)
     (filled_take c.part_of-place.result c.loop-first.ahead.now c.loop-first.invariant.filled)
+
+-- the part of the first entry that is left
+is_next : (c : After-entries_up_to_part) → IsNext c.loop-first.ahead.now c.loop-first.rest.now (rank_of c.in-Some.first.now.pair)
+    c.part_of-place.result c.entries_up_to_part.result
+is_next c = record {
+  within = c.part_of-place.ensures.within;
+  below = c.part_of-place.ensures.below;
+  from = begins_from c.loop-first.rest.now c.in-Some.first.now c.loop-first.invariant.entries_rise (sym c.in-Some.ensures.value);
+  cut = c.entries_up_to_part.ensures.cut;
+  within_limit = c.entries_up_to_part.ensures.within;
+  last = c.entries_up_to_part.ensures.last;
+}
 
 pub add_changed-requires : goal.add_changed-requires
 add_changed-requires c =
@@ -26,17 +39,9 @@ add_changed-requires c =
     let rest = c.loop-first.rest.now in
     let i = c.part_of-place.result in
     let k = c.entries_up_to_part.result in
-    let e = c.in-Some.first.now in
-    let rank = rank_of e.pair in
+    let rank = rank_of c.in-Some.first.now.pair in
     let was = c.loop-first.invariant in
-    let next : IsNext ahead rest rank i k = record {
-      within = c.part_of-place.ensures.within;
-      below = c.part_of-place.ensures.below;
-      from = begins_from rest e was.entries_rise (sym c.in-Some.ensures.value);
-      cut = c.entries_up_to_part.ensures.cut;
-      within_limit = c.entries_up_to_part.ensures.within;
-      last = c.entries_up_to_part.ensures.last;
-    } in
+    let next = is_next (goal.at-add_changed-requires c).After-entries_up_to_part in
     let part = c.index-ahead-place.is ∙ get_or_default ahead i c.index-ahead-place.result [] next.within in
     let own = making_own all es out ahead rest rank i k was next in
     let is = subst₂ IsOwnChange (sym part) (sym c.split_at-in-Some.ensures.front) own in
@@ -56,17 +61,9 @@ loop-first-preserved c =
     let rest = c.loop-first.rest.now in
     let i = c.part_of-place.result in
     let k = c.entries_up_to_part.result in
-    let e = c.in-Some.first.now in
-    let rank = rank_of e.pair in
+    let rank = rank_of c.in-Some.first.now.pair in
     let was = c.loop-first.invariant in
-    let next : IsNext ahead rest rank i k = record {
-      within = c.part_of-place.ensures.within;
-      below = c.part_of-place.ensures.below;
-      from = begins_from rest e was.entries_rise (sym c.in-Some.ensures.value);
-      cut = c.entries_up_to_part.ensures.cut;
-      within_limit = c.entries_up_to_part.ensures.within;
-      last = c.entries_up_to_part.ensures.last;
-    } in
+    let next = is_next (goal.at-loop-first-preserved c).After-entries_up_to_part in
     let part = c.index-ahead-place.is ∙ get_or_default ahead i c.index-ahead-place.result [] next.within in
     let new = c.add_changed.new.out.items in
     let made : all_of new ≡ (all_of out ++ all_of (take i ahead)) ++ changed (get_or ahead i []) (take k rest) =

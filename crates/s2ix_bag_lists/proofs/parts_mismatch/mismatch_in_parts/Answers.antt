@@ -9,7 +9,20 @@ use Rattle.s2ix_bag_lists.specs.Faces.{all_of}
 use Rattle.s2ix_bag_lists.proofs.Making.{IsNext, begins_from}
 use Rattle.s2ix_bag_lists.proofs.Mismatches.{PartsCompared, parts_compared_found, parts_compared_own, parts_compared_step}
 use Rattle.s2ix_bag_lists.proofs.Refusals.{is_mismatch}
+use Rattle.s2ix_bag_lists.proofs.parts_mismatch.mismatch_in_parts.Goals.{After-entries_up_to_part}
 use Rattle.s2ix_bag_lists.proofs.parts_mismatch.mismatch_in_parts.Goals as goal
+
+-- the part of the first entry that is left
+is_next : (c : After-entries_up_to_part) → IsNext c.loop-first.ahead.now c.loop-first.rest.now (rank_of c.in-Some.first.now.pair)
+    c.part_of-part.result c.entries_up_to_part.result
+is_next c = record {
+  within = c.part_of-part.ensures.within;
+  below = c.part_of-part.ensures.below;
+  from = begins_from c.loop-first.rest.now c.in-Some.first.now c.loop-first.invariant.1.entries_rise (sym c.in-Some.ensures.value);
+  cut = c.entries_up_to_part.ensures.cut;
+  within_limit = c.entries_up_to_part.ensures.within;
+  last = c.entries_up_to_part.ensures.last;
+}
 
 pub first_mismatch-requires : goal.first_mismatch-requires
 first_mismatch-requires c =
@@ -18,14 +31,7 @@ first_mismatch-requires c =
     let i = c.part_of-part.result in
     let k = c.entries_up_to_part.result in
     let was = c.loop-first.invariant.1 in
-    let next : IsNext ahead rest (rank_of c.in-Some.first.now.pair) i k = record {
-      within = c.part_of-part.ensures.within;
-      below = c.part_of-part.ensures.below;
-      from = begins_from rest c.in-Some.first.now was.entries_rise (sym c.in-Some.ensures.value);
-      cut = c.entries_up_to_part.ensures.cut;
-      within_limit = c.entries_up_to_part.ensures.within;
-      last = c.entries_up_to_part.ensures.last;
-    } in
+    let next = is_next (goal.at-first_mismatch-requires c).After-entries_up_to_part in
     let rank = rank_of c.in-Some.first.now.pair in
     let all = all_of c.args.parts.now in
     let es = c.args.entries.now in
@@ -44,14 +50,7 @@ returns-in-Some-first_mismatch c =
     let i = c.part_of-part.result in
     let k = c.entries_up_to_part.result in
     let was = c.loop-first.invariant.1 in
-    let next : IsNext ahead rest (rank_of c.in-Some.first.now.pair) i k = record {
-      within = c.part_of-part.ensures.within;
-      below = c.part_of-part.ensures.below;
-      from = begins_from rest c.in-Some.first.now was.entries_rise (sym c.in-Some.ensures.value);
-      cut = c.entries_up_to_part.ensures.cut;
-      within_limit = c.entries_up_to_part.ensures.within;
-      last = c.entries_up_to_part.ensures.last;
-    } in
+    let next = is_next (goal.at-returns-in-Some-first_mismatch c).After-entries_up_to_part in
     let rank = rank_of c.in-Some.first.now.pair in
     let all = all_of c.args.parts.now in
     let es = c.args.entries.now in
@@ -69,14 +68,7 @@ loop-first-preserved c =
     let i = c.part_of-part.result in
     let k = c.entries_up_to_part.result in
     let was = c.loop-first.invariant.1 in
-    let next : IsNext ahead rest (rank_of c.in-Some.first.now.pair) i k = record {
-      within = c.part_of-part.ensures.within;
-      below = c.part_of-part.ensures.below;
-      from = begins_from rest c.in-Some.first.now was.entries_rise (sym c.in-Some.ensures.value);
-      cut = c.entries_up_to_part.ensures.cut;
-      within_limit = c.entries_up_to_part.ensures.within;
-      last = c.entries_up_to_part.ensures.last;
-    } in
+    let next = is_next (goal.at-loop-first-preserved c).After-entries_up_to_part in
     let rank = rank_of c.in-Some.first.now.pair in
     let all = all_of c.args.parts.now in
     let es = c.args.entries.now in
