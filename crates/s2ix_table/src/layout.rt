@@ -63,7 +63,7 @@ impl Layout<'_> {
         ensures behind { AreOffsetsFrom (max result end) offsets.new (covered (heavy_in self.entry.heavy.now) (spans_of self.entry.parts.now)) }
     {
         let same_over = self.is_under_same(next);
-        let offset = offsets[next - 1].after(
+        let offset = offsets[next - 1].of_next(
             self.parts[next - 1].table(),
             self.parts[next].table(),
             same_over,

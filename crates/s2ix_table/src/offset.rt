@@ -24,7 +24,7 @@ impl Offset {
 
     // The offset of `next`, if this is the offset of `table`, the one before it. `same_over` tells whether both lie under the same heavy
     // pairs. O(1).
-    pub(crate) fn after(self, table: &SpanTable, next: &SpanTable, same_over: bool) -> Offset
+    pub(crate) fn of_next(self, table: &SpanTable, next: &SpanTable, same_over: bool) -> Offset
         requires within_limit { self.place ≤ 100000000 }
         requires neighbours { table.now.to ≡ next.now.from }
         ensures offset { (over next_over : Collection) → AreTold table.now.held next.now.held over next_over same_over

@@ -13,8 +13,8 @@ use Rattle.s2ix_table.proofs.Reading.{first_offset}
 use Rattle.s2ix_table.proofs.Shared.{many_shared, seen_at}
 use Rattle.s2ix_table.proofs.layout.Layout.count_next.Goals as goal
 
-pub after-offset-requires-clause-within_limit : goal.after-offset-requires-clause-within_limit
-after-offset-requires-clause-within_limit c =
+pub of_next-offset-requires-clause-within_limit : goal.of_next-offset-requires-clause-within_limit
+of_next-offset-requires-clause-within_limit c =
     let parts = c.args.self.parts.now in
     let heavy = heavy_in c.args.self.heavy.now in
     let shown = covered heavy (spans_of parts) in
@@ -27,8 +27,8 @@ after-offset-requires-clause-within_limit c =
     let within_limit = last_few all shown os n over c.requires.layout.within_limit c.requires.some (omega arith) c.requires.before in
     omega (arith, within_limit)
 
-pub after-offset-requires-clause-neighbours : goal.after-offset-requires-clause-neighbours
-after-offset-requires-clause-neighbours c =
+pub of_next-offset-requires-clause-neighbours : goal.of_next-offset-requires-clause-neighbours
+of_next-offset-requires-clause-neighbours c =
     let parts = c.args.self.parts.now in
     let n = c.args.next in
     let some = c.requires.some in
@@ -53,15 +53,15 @@ move_from-requires-clause-movable c =
     let over = laid_over c.requires.layout in
     let some = c.requires.some in
     let own = many_shared parts in
-    let is = after_laid parts heavy (offset_at os (n - 1)) c.after-offset.result n c.index-self-next.result c.index-self-next-2.result
+    let is = after_laid parts heavy (offset_at os (n - 1)) c.of_next-offset.result n c.index-self-next.result c.index-self-next-2.result
     c.table.result.now c.table-2.result.now c.requires.some within c.table.ensures
     c.table-2.ensures
-    (c.after-offset.ensures.offset _ _ (are_told (n - 1) n _ _ _ c.requires.layout (omega (arith, own)) (omega (arith, own))
+    (c.of_next-offset.ensures.offset _ _ (are_told (n - 1) n _ _ _ c.requires.layout (omega (arith, own)) (omega (arith, own))
     (seen_at parts (n - 1) c.index-self-next.result c.table.result.now (omega arith) c.table.ensures)
     (seen_at parts n c.index-self-next-2.result c.table-2.result.now within c.table-2.ensures) c.is_under_same-same_over.ensures)) in
     let test = c.if-next-end.true in
     let same = c.if-offset-offsets.true in
-    let right = moved_right all shown os c.after-offset.result n c.args.end over c.requires.layout.within_limit c.requires.some (omega arith)
+    let right = moved_right all shown os c.of_next-offset.result n c.args.end over c.requires.layout.within_limit c.requires.some (omega arith)
     (c.requires.many ∙ sym many) c.requires.before c.requires.behind (omega (arith, test)) is (omega (arith, same)) in
     right.0
 
@@ -78,15 +78,15 @@ returns-then-offset-offsets-clause-many c =
     let over = laid_over c.requires.layout in
     let some = c.requires.some in
     let own = many_shared parts in
-    let is = after_laid parts heavy (offset_at os (n - 1)) c.after-offset.result n c.index-self-next.result c.index-self-next-2.result
+    let is = after_laid parts heavy (offset_at os (n - 1)) c.of_next-offset.result n c.index-self-next.result c.index-self-next-2.result
     c.table.result.now c.table-2.result.now c.requires.some within c.table.ensures
     c.table-2.ensures
-    (c.after-offset.ensures.offset _ _ (are_told (n - 1) n _ _ _ c.requires.layout (omega (arith, own)) (omega (arith, own))
+    (c.of_next-offset.ensures.offset _ _ (are_told (n - 1) n _ _ _ c.requires.layout (omega (arith, own)) (omega (arith, own))
     (seen_at parts (n - 1) c.index-self-next.result c.table.result.now (omega arith) c.table.ensures)
     (seen_at parts n c.index-self-next-2.result c.table-2.result.now within c.table-2.ensures) c.is_under_same-same_over.ensures)) in
     let test = c.if-next-end.true in
     let same = c.if-offset-offsets.true in
-    let right = moved_right all shown os c.after-offset.result n c.args.end over c.requires.layout.within_limit c.requires.some (omega arith)
+    let right = moved_right all shown os c.of_next-offset.result n c.args.end over c.requires.layout.within_limit c.requires.some (omega arith)
     (c.requires.many ∙ sym many) c.requires.before c.requires.behind (omega (arith, test)) is (omega (arith, same)) in
     ap length (c.move_from.ensures ∙ right.1) ∙ length_offsets first_offset shown ∙ many
 
@@ -103,15 +103,15 @@ returns-then-offset-offsets-clause-before c =
     let over = laid_over c.requires.layout in
     let some = c.requires.some in
     let own = many_shared parts in
-    let is = after_laid parts heavy (offset_at os (n - 1)) c.after-offset.result n c.index-self-next.result c.index-self-next-2.result
+    let is = after_laid parts heavy (offset_at os (n - 1)) c.of_next-offset.result n c.index-self-next.result c.index-self-next-2.result
     c.table.result.now c.table-2.result.now c.requires.some within c.table.ensures
     c.table-2.ensures
-    (c.after-offset.ensures.offset _ _ (are_told (n - 1) n _ _ _ c.requires.layout (omega (arith, own)) (omega (arith, own))
+    (c.of_next-offset.ensures.offset _ _ (are_told (n - 1) n _ _ _ c.requires.layout (omega (arith, own)) (omega (arith, own))
     (seen_at parts (n - 1) c.index-self-next.result c.table.result.now (omega arith) c.table.ensures)
     (seen_at parts n c.index-self-next-2.result c.table-2.result.now within c.table-2.ensures) c.is_under_same-same_over.ensures)) in
     let test = c.if-next-end.true in
     let same = c.if-offset-offsets.true in
-    let right = moved_right all shown os c.after-offset.result n c.args.end over c.requires.layout.within_limit c.requires.some (omega arith)
+    let right = moved_right all shown os c.of_next-offset.result n c.args.end over c.requires.layout.within_limit c.requires.some (omega arith)
     (c.requires.many ∙ sym many) c.requires.before c.requires.behind (omega (arith, test)) is (omega (arith, same)) in
     ap (take (length parts)) (c.move_from.ensures ∙ right.1)
 
@@ -128,15 +128,15 @@ returns-then-offset-offsets-clause-behind c =
     let over = laid_over c.requires.layout in
     let some = c.requires.some in
     let own = many_shared parts in
-    let is = after_laid parts heavy (offset_at os (n - 1)) c.after-offset.result n c.index-self-next.result c.index-self-next-2.result
+    let is = after_laid parts heavy (offset_at os (n - 1)) c.of_next-offset.result n c.index-self-next.result c.index-self-next-2.result
     c.table.result.now c.table-2.result.now c.requires.some within c.table.ensures
     c.table-2.ensures
-    (c.after-offset.ensures.offset _ _ (are_told (n - 1) n _ _ _ c.requires.layout (omega (arith, own)) (omega (arith, own))
+    (c.of_next-offset.ensures.offset _ _ (are_told (n - 1) n _ _ _ c.requires.layout (omega (arith, own)) (omega (arith, own))
     (seen_at parts (n - 1) c.index-self-next.result c.table.result.now (omega arith) c.table.ensures)
     (seen_at parts n c.index-self-next-2.result c.table-2.result.now within c.table-2.ensures) c.is_under_same-same_over.ensures)) in
     let test = c.if-next-end.true in
     let same = c.if-offset-offsets.true in
-    let right = moved_right all shown os c.after-offset.result n c.args.end over c.requires.layout.within_limit c.requires.some (omega arith)
+    let right = moved_right all shown os c.of_next-offset.result n c.args.end over c.requires.layout.within_limit c.requires.some (omega arith)
     (c.requires.many ∙ sym many) c.requires.before c.requires.behind (omega (arith, test)) is (omega (arith, same)) in
     subst (λ ps. AreOffsetsFrom (max (length parts) c.args.end) ps shown) (sym (c.move_from.ensures ∙ right.1))
     (own_behind (max (length parts) c.args.end) shown)
@@ -154,13 +154,13 @@ returns-else-next-end-clause-before c =
     let over = laid_over c.requires.layout in
     let some = c.requires.some in
     let own = many_shared parts in
-    let is = after_laid parts heavy (offset_at os (n - 1)) c.after-offset.result n c.index-self-next.result c.index-self-next-2.result
+    let is = after_laid parts heavy (offset_at os (n - 1)) c.of_next-offset.result n c.index-self-next.result c.index-self-next-2.result
     c.table.result.now c.table-2.result.now c.requires.some within c.table.ensures
     c.table-2.ensures
-    (c.after-offset.ensures.offset _ _ (are_told (n - 1) n _ _ _ c.requires.layout (omega (arith, own)) (omega (arith, own))
+    (c.of_next-offset.ensures.offset _ _ (are_told (n - 1) n _ _ _ c.requires.layout (omega (arith, own)) (omega (arith, own))
     (seen_at parts (n - 1) c.index-self-next.result c.table.result.now (omega arith) c.table.ensures)
     (seen_at parts n c.index-self-next-2.result c.table-2.result.now within c.table-2.ensures) c.is_under_same-same_over.ensures)) in
-    (counted_one shown os c.after-offset.result n c.args.end c.requires.some (omega arith) (c.requires.many ∙ sym many) c.requires.before
+    (counted_one shown os c.of_next-offset.result n c.args.end c.requires.some (omega arith) (c.requires.many ∙ sym many) c.requires.before
     c.requires.behind is).before
 
 pub returns-else-next-end-clause-behind : goal.returns-else-next-end-clause-behind
@@ -176,11 +176,11 @@ returns-else-next-end-clause-behind c =
     let over = laid_over c.requires.layout in
     let some = c.requires.some in
     let own = many_shared parts in
-    let is = after_laid parts heavy (offset_at os (n - 1)) c.after-offset.result n c.index-self-next.result c.index-self-next-2.result
+    let is = after_laid parts heavy (offset_at os (n - 1)) c.of_next-offset.result n c.index-self-next.result c.index-self-next-2.result
     c.table.result.now c.table-2.result.now c.requires.some within c.table.ensures
     c.table-2.ensures
-    (c.after-offset.ensures.offset _ _ (are_told (n - 1) n _ _ _ c.requires.layout (omega (arith, own)) (omega (arith, own))
+    (c.of_next-offset.ensures.offset _ _ (are_told (n - 1) n _ _ _ c.requires.layout (omega (arith, own)) (omega (arith, own))
     (seen_at parts (n - 1) c.index-self-next.result c.table.result.now (omega arith) c.table.ensures)
     (seen_at parts n c.index-self-next-2.result c.table-2.result.now within c.table-2.ensures) c.is_under_same-same_over.ensures)) in
-    (counted_one shown os c.after-offset.result n c.args.end c.requires.some (omega arith) (c.requires.many ∙ sym many) c.requires.before
+    (counted_one shown os c.of_next-offset.result n c.args.end c.requires.some (omega arith) (c.requires.many ∙ sym many) c.requires.before
     c.requires.behind is).behind
