@@ -5,7 +5,7 @@ ghost use Rattle.s2ix_table_walk.specs.Contents.{contents_at};
 ghost use Rattle.s2ix_table_walk.specs.Places.{LeadsTo};
 ghost use Rattle.s2ix_table.specs.PartPlaces.{faced_chain};
 ghost use Rattle.s2ix_table_spans.specs.SpanTable.{IsSpanTable};
-ghost use Rattle.s2ix_table_spans.specs.Starts.{IsLastStart};
+ghost use Rattle.s2ix_table_spans.specs.Starts.{IsAmong, IsLastStart};
 ghost use Rattle.s2ix_table_walk.specs.Table.{IsFound, range_at};
 ghost use Rattle.s2ix_table_queries.specs.LeafContents.{AreContents};
 ghost use Rattle.s2ix_table.specs.FaceSpans.{spans_of, table_of};
@@ -17,6 +17,7 @@ use crate::starts::start_by;
 use s2id_core::CellId;
 use s2ix_table_queries::{BATCH, LeafContents, LeafHint, RangeTable};
 use s2ix_table_spans::{SpanTable, is_last_start, step_ahead};
+use s2ix_table_walk::Window;
 
 // The lists of more parts than this are out of the processor's cache.
 const MANY_PARTS: usize = 512;
@@ -33,13 +34,20 @@ impl FacedTable {
         self.span(part.min(self.part_count() - 1))
     }
 
+    // A few parts, of which one has a leaf. O(1).
+    #[inline]
+    fn parts_with(&self, leaf: CellId) -> Window
+        ensures { IsAmong self.now.starts.items (raw_of leaf) result.first result.size }
+    {
+        self.blocks.parts_with(&self.starts, leaf.raw())
+    }
+
     // The part that has a leaf. O(log p).
     #[inline]
     pub(crate) fn part_with(&self, leaf: CellId) -> usize
         ensures { IsLastStart self.now.starts.items (raw_of leaf) result }
     {
-        let among = self.blocks.parts_with(&self.starts, leaf.raw());
-        start_by(&self.starts, leaf.raw(), among)
+        start_by(&self.starts, leaf.raw(), self.parts_with(leaf))
     }
 
     // The place in a part's table of the range that has a leaf. O(log n).
@@ -140,8 +148,8 @@ impl FacedTable {
         }
     }
 
-    // Looks for leaves by searches that go on side by side, first among the starts of the parts and then in the parts. Then it reads what each
-    // search leads to, so that this is in the processor's cache. It is not inlined: else the compiler may leave these reads out.
+    // Looks for leaves by searches that go on side by side, first among the few parts that may have each leaf and then in its part. It is not
+    // inlined: else the compiler may leave out what is read ahead.
     #[inline(never)]
     pub(crate) fn look_side_by_side(&self, leaves: &[CellId], hints: &mut [LeafHint])
         requires many { length leaves.now ≤ 64 }
@@ -150,25 +158,44 @@ impl FacedTable {
     {
         let mut lists = [self.starts.as_slice(); BATCH];
         let mut parts = [0; BATCH];
-        search_side_by_side(&lists, leaves, &mut parts);
+        let mut most = 0;
+        for (k, leaf) in leaves.iter().enumerate() {
+            let among = self.parts_with(*leaf);
+            parts[k] = among.first;
+            most = most.max(among.size);
+        }
+        search_side_by_side(&lists, leaves, most, &mut parts);
+        let mut longest = 0;
         for k in 0..leaves.len() {
-            parts[k] = parts[k].min(self.part_count() - 1);
             lists[k] = self.span_by(parts[k]).starts();
+            longest = longest.max(lists[k].len());
         }
         let mut ranges = [0; BATCH];
-        search_side_by_side(&lists, leaves, &mut ranges);
-        let mut places = [0; BATCH];
-        for k in 0..leaves.len() {
-            let span = self.span_by(parts[k]);
-            ranges[k] = ranges[k].min(span.range_count() - 1);
-            places[k] = span.innermost(ranges[k]);
-        }
+        search_side_by_side(&lists, leaves, longest, &mut ranges);
         for k in 0..leaves.len() {
             hints[k] = LeafHint {
                 part: parts[k],
                 range: ranges[k],
-                seen: self.span_by(parts[k]).touch(places[k]),
+                seen: 0,
             };
+        }
+        if self.parts.len() > MANY_PARTS {
+            self.read_ahead(&mut hints[..leaves.len()]);
+        }
+    }
+
+    // Reads what hints lead to, so that this is in the processor's cache.
+    fn read_ahead(&self, hints: &mut [LeafHint])
+        requires { length hints.old ≤ 64 }
+        ensures { length hints.new ≡ length hints.old }
+    {
+        let mut places = [0; BATCH];
+        for (k, hint) in hints.iter().enumerate() {
+            let span = self.span_by(hint.part);
+            places[k] = span.innermost(hint.range.min(span.range_count() - 1));
+        }
+        for k in 0..hints.len() {
+            hints[k].seen = self.span_by(hints[k].part).touch(places[k]);
         }
     }
 }
@@ -185,22 +212,26 @@ fn are_rising(leaves: &[CellId]) -> bool {
     true
 }
 
-// Searches each list for the last start that is not after the leaf beside it, from place 0 on, each search a step in turn: the place of that
-// start, or one past the end if it is the last.
+// Searches each list for the last start that is not after the leaf beside it, from a place on whose start isn't after it either, each search
+// a step in turn. It finds those that are among the next `most` places.
 #[inline]
-fn search_side_by_side(lists: &[&[u64]; BATCH], leaves: &[CellId], places: &mut [usize; BATCH])
+fn search_side_by_side(
+    lists: &[&[u64]; BATCH],
+    leaves: &[CellId],
+    most: usize,
+    places: &mut [usize; BATCH],
+)
     requires { length leaves.now ≤ 64 }
 {
-    let mut longest = 0;
-    for k in 0..leaves.len() {
-        longest = longest.max(lists[k].len());
-    }
-    let mut digit = digits_below(longest);
+    let mut digit = digits_below(most);
     while digit > 0 {
         digit -= 1;
         for (k, leaf) in leaves.iter().enumerate() {
             places[k] = step_ahead(lists[k], leaf.raw(), places[k], digit);
         }
+    }
+    for k in 0..leaves.len() {
+        places[k] = places[k].min(lists[k].len().saturating_sub(1));
     }
 }
 

@@ -51,6 +51,6 @@ impl<P: Copy> LeafContents<'_, P> {
         ensures limit { IsTrue result → raw_of leaf < self.now.limit }
         ensures over { self.now.start ≤ raw_of leaf → raw_of leaf < self.now.limit → IsTrue result }
     {
-        self.start <= leaf.raw() && leaf.raw() < self.limit
+        leaf.raw().wrapping_sub(self.start) < self.limit.saturating_sub(self.start)
     }
 }

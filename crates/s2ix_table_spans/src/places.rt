@@ -159,7 +159,7 @@ fn last_among(starts: &[u64], leaf: u64, among: Window) -> usize
     first
 }
 
-/// One step of a search among rising, odd starts for the last one that is not after a leaf: it goes on from a place by 0 to 3 times
+/// One step of a search among rising starts for the last one that is not after a leaf: it goes on from a place by 0 to 3 times
 /// `4^digit` places, as far as the starts there are not after the leaf. Any place and any digit are accepted: a place past the end reads the
 /// last start, and without starts it stays. If there are no more than `4^d` starts, the steps from place 0 by the digits d - 1, d - 2 and so
 /// on to 0 find it, or end past the last start if that is it. No clause says so, since a caller looks at the place that it finds. No branch
@@ -175,9 +175,9 @@ pub fn step_ahead(starts: &[u64], leaf: u64, from: usize, digit: u32) -> usize {
     let first = from.wrapping_add(step);
     let second = first.wrapping_add(step);
     let third = second.wrapping_add(step);
-    let steps = reached(starts[first.min(last)], leaf)
-        + reached(starts[second.min(last)], leaf)
-        + reached(starts[third.min(last)], leaf);
+    let steps = usize::from(starts[first.min(last)] <= leaf)
+        + usize::from(starts[second.min(last)] <= leaf)
+        + usize::from(starts[third.min(last)] <= leaf);
     // A shift: of a product the compiler makes a branch.
     from.wrapping_add(steps.wrapping_shl(shift))
 }
