@@ -4,5 +4,6 @@ pub mod Stretching
 pub mod Building
 pub mod Numbers
 pub mod LeafByLeaf
+pub mod Again
 pub mod Linking
 pub mod Marking

@@ -1,5 +1,5 @@
 -- Chains in lists, put pair by pair, and what lies over a leaf.
-use Rattle.std.proofs.Common.{◌≡◌, ℕ, ◌+◌, ◌<◌, ◌≤◌, Option, Some, None, IfSome, List, [], ◌∷◌, ◌++◌, length, map, take, get_or, slice_index_or, slice_set, refl, sym, ◌∙◌, ap, arith}
+use Rattle.std.proofs.Common.{◌≡◌, ℕ, ◌+◌, ◌%◌, ◌<◌, ◌≤◌, Option, Some, None, IfSome, List, [], ◌∷◌, ◌++◌, length, map, take, get_or, slice_index_or, slice_set, refl, sym, ◌∙◌, ap, arith}
 use Rattle.std.proofs.lemmas.List.{append_assoc, get_or_default, length-append, map-append, take_more_set}
 use Rattle.std.proofs.lemmas.Option.{slice_get-get_or, slice_get_read}
 use Rattle.s2id_core.specs.declared.cell_id.CellId.{CellId}
@@ -28,14 +28,17 @@ some_linked {held = h ∷ hs} {outer} {chain} place linked lt =
     let long = ap length (linked_at place there linked lt (get_or_default (h ∷ hs) place h there lt)) in
     omega (arith, long)
 
+pub leaf_odd : (leaf : CellId) → level_of leaf ≡ 30 → raw_of leaf % 2 ≡ 1
+leaf_odd leaf level =
+    let own = (leaf_span (raw_of leaf) leaf.valid level).0 in
+    let begins = (span (raw_of leaf) leaf.valid).odd in
+    omega arith
+
 -- what lies over a leaf, by what lies over those beside it
 pub over_leaf : {P : Type 0} {chain : P → Collection} {pairs : Collection} {start limit : ℕ} {held : Collection} {outer : List ℕ} {first : ℕ}
     {behind : Option P} (leaf : CellId) (are : AreContents chain pairs start limit held outer first behind) → level_of leaf ≡ 30
     → start ≤ raw_of leaf → raw_of leaf < limit → contents_at (raw_of leaf) pairs ≡ are.listed first ++ from_place chain behind
-over_leaf leaf are level from to =
-    let own = (leaf_span (raw_of leaf) leaf.valid level).0 in
-    let begins = (span (raw_of leaf) leaf.valid).odd in
-    are.over (raw_of leaf) (omega arith) from to
+over_leaf leaf are level from to = are.over (raw_of leaf) (leaf_odd leaf level) from to
 
 -- a pair is put, and the rest of its chain is left
 pub put_more : {R : Type 0} (of : Held → R) (out : List R) (at : ℕ) (h : Held) (rest chain : Collection) (all : List R) → at < length out

@@ -1,5 +1,5 @@
 -- What lies over each of many leaves.
-use Rattle.std.specs.Prelude.{◌≡◌, ◌≢◌, ◌⊎◌, ℕ, ◌+◌, ◌<◌, ◌≤◌, Option, None, List, length, flat_map, map, slice_get, slice_index_or, take}
+use Rattle.std.specs.Prelude.{◌≡◌, ◌≢◌, ◌⊎◌, ℕ, ◌+◌, ◌%◌, ◌<◌, ◌≤◌, Option, None, List, length, flat_map, map, slice_get, slice_index_or, take}
 use Rattle.s2id_core.specs.declared.cell_id.CellId.{CellId}
 use Rattle.s2ix_bag_pairs.specs.Collection.{Collection}
 use Rattle.s2ix_bag_pairs.specs.declared.pair.Held.{Held}
@@ -26,6 +26,10 @@ pub record AreAnswered {R : Type 0} (of : Held → R) (held : Collection) (leave
   pub listed : answered ≤ length ends
   pub each_end : (k : ℕ) → k < answered → slice_index_or ends k 0 ≡ length (over_first (k + 1) leaves held)
   pub put : take (length (over_first answered leaves held)) out ≡ map of (over_first answered leaves held)
+
+-- items are what is kept of the pairs over each leaf of a span
+pub record AreOver {R : Type 0} (of : Held → R) (held : Collection) (start limit : ℕ) (items : List R) : Type 0 where
+  pub each : (leaf : ℕ) → leaf % 2 ≡ 1 → start ≤ leaf → leaf < limit → items ≡ map of (contents_at leaf held)
 
 -- the next leaf is none
 pub record IsNoLeaf (leaves : List ℕ) (answered : ℕ) : Type 0 where

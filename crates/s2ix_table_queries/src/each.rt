@@ -1,12 +1,12 @@
 //! What lies over each of many leaves.
-ghost use Rattle.std.specs.Prelude.{◌≡◌, ◌≤◌, ◌<◌, ◌+◌, ◌++◌, ℕ, None, Some, IfSome, length, map, take};
+ghost use Rattle.std.specs.Prelude.{◌≡◌, ◌≤◌, ◌<◌, ◌+◌, ◌-◌, ◌++◌, ℕ, None, Some, IfSome, drop, length, map, take};
 ghost use Rattle.s2id_core.specs.CellId.{level_of, raw_of};
 ghost use Rattle.s2ix_bag_pairs.specs.Collection.{Collection};
 ghost use Rattle.s2ix_table_walk.specs.Contents.{contents_at};
 ghost use Rattle.s2ix_table_walk.specs.Links.{AreLinked};
 ghost use Rattle.s2ix_table_walk.specs.Places.{IsPlace, from_place};
 ghost use Rattle.s2ix_table_queries.specs.LeafContents.{AreContents};
-ghost use Rattle.s2ix_table_queries.specs.ManyLeaves.{AreAnswered, IsBatchAt, IsNoLeaf, LacksRoom, leaf_in, over_first};
+ghost use Rattle.s2ix_table_queries.specs.ManyLeaves.{AreAnswered, AreOver, IsBatchAt, IsNoLeaf, LacksRoom, leaf_in, over_first};
 
 use crate::hint::{BATCH, LeafHint};
 use crate::leaf::leaf_of;
@@ -133,6 +133,28 @@ fn put_leaf<T: RangeTable, R: OfHeld>(
     put_chain(table, contents.rest, out, at)
 }
 
+// Puts the last items of a buffer, those from one place on up to another, behind these again; returns where they end, or `None` if there is
+// no room for them all.
+#[inline(always)]
+fn put_again<R: Copy>(out: &mut [R], from: usize, end: usize) -> Option<usize>
+    requires order { from ≤ end }
+    requires room { end ≤ length out.old }
+    ensures same { length out.new ≡ length out.old }
+    ensures none { result ≡ None → out.new ≡ out.old }
+    ensures end { IfSome result (λ after. after ≡ end + (end - from)) }
+    ensures within { IfSome result (λ after. after ≤ length out.old) }
+    ensures put { IfSome result (λ after. take after out.new ≡ take end out.old ++ drop from (take end out.old)) }
+{
+    let count = end - from;
+    if count > out.len() - end {
+        return None;
+    }
+    for k in 0..count {
+        out[end + k] = out[from + k];
+    }
+    Some(end + count)
+}
+
 // The leaves of some numbers that follow one another in a list.
 #[derive(Drop)]
 struct Batch {
@@ -169,14 +191,61 @@ struct Done {
     pairs: usize,
 }
 
-// Answers the leaves of a batch in order, as long as there is room. `contents` is what `contents_near` gave last; it often lies over the next
-// leaf too.
+// Answers the leaves from one on that lie in the span of contents, as long as there is room. What lies over them is put already, for the leaf
+// before them: it is what was put from the place `from` on.
+#[inline(always)]
+fn put_same<T: RangeTable, R: OfHeld>(
+    table: &T,
+    contents: &LeafContents<'_, T::Place>,
+    leaves: &[u64],
+    from: usize,
+    before: Done,
+    ends: &mut [usize],
+    out: &mut [R],
+) -> Done
+    requires before { AreAnswered R.of (T.pairs table.now) leaves.now before.leaves ends.old out.old }
+    requires count { before.pairs ≡ length (over_first before.leaves leaves.now (T.pairs table.now)) }
+    requires room { before.pairs ≤ length out.old }
+    requires order { from ≤ before.pairs }
+    requires over { AreOver R.of (T.pairs table.now) contents.now.start contents.now.limit (drop from (take before.pairs out.old)) }
+    ensures same { length out.new ≡ length out.old }
+    ensures listed { length ends.new ≡ length ends.old }
+    ensures answered { AreAnswered R.of (T.pairs table.now) leaves.now result.leaves ends.new out.new }
+    ensures count { result.pairs ≡ length (over_first result.leaves leaves.now (T.pairs table.now)) }
+    ensures room { result.pairs ≤ length out.old }
+    ensures more { before.leaves ≤ result.leaves }
+{
+    let mut last = from;
+    let mut done = before;
+    while done.leaves < leaves.len() && done.leaves < ends.len() {
+        let number = leaves[done.leaves];
+        if !contents.has_leaf(number) {
+            return done;
+        }
+        let Some(_leaf) = leaf_of(number) else {
+            return done;
+        };
+        let Some(after) = put_again(out, last, done.pairs) else {
+            return done;
+        };
+        ends[done.leaves] = after;
+        last = done.pairs;
+        done = Done {
+            leaves: done.leaves + 1,
+            pairs: after,
+        };
+    }
+    done
+}
+
+// Answers the leaves of a batch in order, as long as there is room, and those behind it that lie in the same span as its last one. `near` is
+// a hint for the next leaf nearby.
 #[inline]
-fn put_batch<'a, T: RangeTable, R: OfHeld>(
-    table: &'a T,
+fn put_batch<T: RangeTable, R: OfHeld>(
+    table: &T,
     leaves: &[u64],
     batch: &Batch,
-    contents: &mut LeafContents<'a, T::Place>,
+    near: &mut LeafHint,
     before: Done,
     ends: &mut [usize],
     out: &mut [R],
@@ -185,10 +254,6 @@ fn put_batch<'a, T: RangeTable, R: OfHeld>(
     requires count { before.pairs ≡ length (over_first before.leaves leaves.now (T.pairs table.now)) }
     requires room { before.pairs ≤ length out.old }
     requires batch { IsBatchAt leaves.now before.leaves batch.now.leaves batch.now.many }
-    requires contents { AreContents (T.chain table.now) (T.pairs table.now) contents.old.start contents.old.limit
-        contents.old.held.now contents.old.outers.now contents.old.innermost contents.old.rest }
-    ensures contents { AreContents (T.chain table.now) (T.pairs table.now) contents.new.start contents.new.limit
-        contents.new.held.now contents.new.outers.now contents.new.innermost contents.new.rest }
     ensures same { length out.new ≡ length out.old }
     ensures listed { length ends.new ≡ length ends.old }
     ensures answered { AreAnswered R.of (T.pairs table.now) leaves.now result.leaves ends.new out.new }
@@ -202,22 +267,26 @@ fn put_batch<'a, T: RangeTable, R: OfHeld>(
     let has_looked = table.look_for(&batch.leaves[..many], &mut hints);
     let mut done = before;
     for k in 0..batch.many {
+        if before.leaves + k < done.leaves {
+            continue;
+        }
+        let leaf = batch.leaves[k];
         if done.leaves >= ends.len() {
             return done;
         }
-        let leaf = batch.leaves[k];
-        if !contents.has_leaf(leaf) {
-            let hint = if has_looked { hints[k] } else { contents.hint };
-            *contents = table.contents_near(leaf, hint);
-        }
-        let Some(end) = put_leaf(table, contents, leaf, out, done.pairs) else {
+        let hint = if has_looked { hints[k] } else { *near };
+        let contents = table.contents_near(leaf, hint);
+        *near = contents.hint;
+        let from = done.pairs;
+        let Some(end) = put_leaf(table, &contents, leaf, out, from) else {
             return done;
         };
         ends[done.leaves] = end;
-        done = Done {
+        let next = Done {
             leaves: done.leaves + 1,
             pairs: end,
         };
+        done = put_same(table, &contents, leaves, from, next, ends, out);
     }
     done
 }
@@ -240,7 +309,7 @@ pub fn at_each<T: RangeTable, R: OfHeld>(
     ensures ends { length ends.new ≡ length ends.old }
     ensures out { length out.new ≡ length out.old }
 {
-    let mut contents = LeafContents::none();
+    let mut near = LeafHint::none();
     let mut done = Done {
         leaves: 0,
         pairs: 0,
@@ -253,7 +322,7 @@ pub fn at_each<T: RangeTable, R: OfHeld>(
             };
         };
         let next = done.leaves + batch.many;
-        done = put_batch(table, leaves, &batch, &mut contents, done, ends, out);
+        done = put_batch(table, leaves, &batch, &mut near, done, ends, out);
         if done.leaves < next {
             return Each {
                 answered: done.leaves,

@@ -1,6 +1,5 @@
 -- The leaves that were passed are answered.
 use Rattle.std.proofs.Common.{◌≡◌, ◌≤◌, ◌-◌, length}
-use Rattle.s2ix_table_queries.specs.LeafContents.{AreContents}
 use Rattle.s2ix_table_queries.specs.ManyLeaves.{AreAnswered, over_first}
 use Rattle.s2ix_table_queries.proofs.each.at_each.Given as goal
 
@@ -11,8 +10,6 @@ invariant-loop-done g l =
     × (l.done.pairs ≤ length l.out)
     × (length l.out ≡ length l.initial.out)
     × (length l.ends ≡ length l.initial.ends)
-    × AreContents (g.T.RangeTable.chain l.table) (g.T.RangeTable.pairs l.table) l.contents.start l.contents.limit l.contents.held.now
-    l.contents.outers.now l.contents.innermost l.contents.rest
 
 abbrev pub decreases-loop-done : goal.decreases-loop-done
 decreases-loop-done g l = length l.leaves - l.done.leaves

@@ -1,6 +1,5 @@
 -- The leaves whose pairs were put are answered.
 use Rattle.std.proofs.Common.{◌≡◌, ◌≤◌, ◌+◌, length}
-use Rattle.s2ix_table_queries.specs.LeafContents.{AreContents}
 use Rattle.s2ix_table_queries.specs.ManyLeaves.{AreAnswered, over_first}
 use Rattle.s2ix_table_queries.proofs.each.put_batch.Given as goal
 
@@ -11,6 +10,4 @@ invariant-loop-k g l =
     × (l.done.pairs ≤ length l.out)
     × (length l.out ≡ length l.initial.out)
     × (length l.ends ≡ length l.initial.ends)
-    × (l.done.leaves ≡ l.fn.before.leaves + l.k)
-    × AreContents (g.T.RangeTable.chain l.table) (g.T.RangeTable.pairs l.table) l.contents.start l.contents.limit l.contents.held.now
-    l.contents.outers.now l.contents.innermost l.contents.rest
+    × (l.fn.before.leaves + l.k ≤ l.done.leaves)
