@@ -1,11 +1,11 @@
 -- No cells have no leaf and meet nothing, and some cells have a leaf.
-use Rattle.std.proofs.Common.{◌≡◌, ◌≢◌, ◌<◌, ◌≤◌, ◌∙◌, ℕ, List, [], ◌∷◌, length, map, take, drop, refl, sym, ap, subst, inl, inr, Some, arith, true, false, Bool, Contains, ◌&&◌}
-use Rattle.std.proofs.lemmas.Bool.{cases_eq, cond-false, and_parts, both_ways, leb-true, ltb-true}
+use Rattle.std.proofs.Common.{◌≡◌, ◌≢◌, ◌∙◌, ℕ, List, [], ◌∷◌, length, map, take, drop, refl, sym, ap, subst, inl, inr, Some, arith, true, Bool, ◌&&◌}
+use Rattle.std.proofs.lemmas.Bool.{cases_eq, and_parts, leb-true, ltb-true}
 use Rattle.std.specs.Prelude.{nat_le, nat_lt}
 use Rattle.s2id_core.proofs.Lists.{at_head}
 use Rattle.s2id_core.proofs.Nested.{span}
 use Rattle.s2id_core.specs.declared.cell_id.CellId.{CellId}
-use Rattle.s2id_core.specs.CellId.{raw_of, first_of, end_of}
+use Rattle.s2id_core.specs.CellId.{raw_of, first_of}
 use Rattle.s2id_union.specs.Covers.{Covers}
 use Rattle.s2id_union.specs.NormalForm.{cells_where, is_covered, normal_form}
 use Rattle.s2id_union.proofs.Covering.{covers_nil}
@@ -15,10 +15,9 @@ use Rattle.s2ix_bag_pairs.specs.Collection.{Collection}
 use Rattle.s2ix_bag_pairs.specs.Label.{value_of}
 use Rattle.s2ix_bag_pairs.specs.OfLabel.{held_of}
 use Rattle.s2ix_bag_pairs.specs.declared.label.Label.{Label}
-use Rattle.s2ix_bag_pairs.specs.declared.pair.Held.{Held}
-use Rattle.s2ix_table_walk.specs.InOrder.{choice}
 use Rattle.s2ix_table_walk.specs.LabelList.{label_list}
 use Rattle.s2ix_table_walk.specs.Meeting.{first_shared, is_met_from, meeting_from, meeting_key, meeting_of}
+use Rattle.s2ix_table_walk.proofs.InOrder.{choice_none}
 use Rattle.s2ix_edit_plan.specs.Region.{cell_of, region_of}
 use Rattle.s2ix_edit_plan.specs.State.{State}
 use Rattle.s2ix_c_calls.specs.Asked.{AreAllCells, IsFirstNoCell}
@@ -86,14 +85,9 @@ some_region label s some = some_numbers (held_of label s.bag.held) some
 
 -- ---- nothing is met
 
-none_chosen : (test : Held → Bool) (key : Held → ℕ) (hs : Collection) → ((h : Held) → test h ≡ false) → choice test key hs ≡ []
-unfolding choice
-none_chosen test key [] none = refl
-none_chosen test key (h ∷ hs) none = cond-false _ _ _ (none h) ∙ none_chosen test key hs none
-
 no_meeting : (held : Collection) → meeting_of [] held ≡ []
 unfolding meeting_from first_shared
-no_meeting held = none_chosen (is_met_from [] 1) (meeting_key []) held (λ h. refl)
+no_meeting held = choice_none (is_met_from [] 1) (meeting_key []) held (λ h. refl)
 
 no_target : (held : Collection) → meeting_of (normal_form []) held ≡ []
 no_target held = ap (λ cells. meeting_of cells held) no_normal ∙ no_meeting held
