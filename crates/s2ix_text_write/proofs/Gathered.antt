@@ -110,13 +110,6 @@ module _ {K : Type 0} {sink : Sink K} where
       sym (flat_map-append f (take (place + 1) xs) (drop (place + 1) xs)) ∙ ap (flat_map f) (take-append-drop (place + 1) xs) in
       subst (λ (t : List ℕ). Writes sink old new r t) whole (Writes-cut r (flat_map f (drop (place + 1) xs)) is failed)
 
-  -- the last block is put
-  pub last_put : {X A : Type 0} (f : X → List ℕ) (xs : List X) (place : ℕ) {old mid new : K} {rest : List ℕ} {r : Result A WriteFault}
-      → length xs ≤ place → IsGathered sink old mid (flat_map f (take place xs)) rest
-      → Writes sink mid new r rest → Writes sink old new r (flat_map f xs)
-  last_put f xs place {old} {mid} {new} {rest} {r} end was put =
-      subst (λ (t : List ℕ). Writes sink old new r t) (ap (flat_map f) (take_all place xs end)) (put_out was put)
-
   -- the last line comes after all items
   pub list_put : {X A : Type 0} (f : X → List ℕ) (xs : List X) (place : ℕ) {old mid new : K} {rest : List ℕ} {r : Result A WriteFault}
       → place ≡ length xs → IsGathered sink old mid (flat_map f (take place xs)) rest
