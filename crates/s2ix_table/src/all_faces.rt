@@ -13,7 +13,7 @@ use s2id_core::{FACES, OutOfMemory};
 use std::alloc::Global;
 
 // The parts of all faces, and the heavy pairs of each face.
-#[derive(Debug, Drop)]
+#[derive(Drop)]
 pub(crate) struct AllFaces {
     pub(crate) parts: Vec<Part>,
     pub(crate) heavy: [HeavyPairs; FACES],
@@ -66,7 +66,7 @@ impl AllFaces {
     }
 }
 
-// The six faces of what a reader shows, each in two layers. O(n log n) for n pairs. `OutOfMemory` if a growth is refused.
+// The six faces of what a reader shows, each in two layers if it must be. O(n log n) for n pairs. `OutOfMemory` if a growth is refused.
 pub(crate) fn read_all_faces<B: PairReader>(
     alloc: Global,
     reader: &mut B,

@@ -23,7 +23,7 @@ use std::alloc::Global;
 use std::sync::Arc;
 
 // Both layers.
-#[derive(Debug, Drop)]
+#[derive(Drop)]
 pub(crate) struct FaceParts {
     pub(crate) parts: Vec<Part>,
     pub(crate) heavy: HeavyPairs,

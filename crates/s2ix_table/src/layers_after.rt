@@ -17,7 +17,7 @@ use s2ix_bag_pairs::Entry;
 use std::alloc::Global;
 
 // The entries of a change, by the layer that has their cells then.
-#[derive(Debug, Drop)]
+#[derive(Drop)]
 struct LayerEntries {
     light: Vec<Entry>,
     heavy: Vec<Entry>,

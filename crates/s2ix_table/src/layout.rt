@@ -27,9 +27,9 @@ pub(crate) struct Layout<'a> {
 }
 
 impl Layout<'_> {
-    // Counts the offsets of the parts and how many ranges these have. The offsets of the parts before `first` are right, and those from
-    // `end` on are as far from one another as they should be. O(q) for q parts from `first` on. It reads the parts up to `end`, and mostly
-    // none behind.
+    // Counts the offsets of the parts and how many ranges these have. The offsets of the parts before `first` are right, and the places of
+    // those from `end` on are all wrong by one shared amount, if they are wrong. O(q) for q parts from `first` on. It reads the parts up to
+    // `end`, and mostly none behind that one.
     pub(crate) fn count_from(self, first: usize, end: usize, offsets: &mut [Offset]) -> usize
         requires layout { IsLayout (spans_of self.parts.now) self.heavy.now (overs_of self.parts.now) }
         requires within { first ≤ length self.parts.now }
@@ -47,8 +47,8 @@ impl Layout<'_> {
         offsets[next - 1].place + self.parts[next - 1].table().range_count()
     }
 
-    // Counts the offset of the part `next`, which is not the first. If a part from `end` on begins as it did, those behind it do so too:
-    // their places move as far as its own. Returns before which part the offsets are right then.
+    // Counts the offset of the part `next`, which is not the first. If the first range of a part from `end` on begins where it did, so do
+    // those of the parts behind it: their places move as far as its own. Returns before which part the offsets are right then.
     fn count_next(self, next: usize, end: usize, offsets: &mut [Offset]) -> usize
         requires layout { IsLayout (spans_of self.parts.now) self.heavy.now (overs_of self.parts.now) }
         requires some { 0 < next }

@@ -18,7 +18,7 @@ pub struct NewParts {
 }
 
 // What a change makes of a face: its parts with numbers from `first` on and before `end` give way to `parts`, and these are its heavy pairs.
-#[derive(Debug, Drop)]
+#[derive(Drop)]
 pub(crate) struct NewFace {
     pub(crate) face: usize,
     pub(crate) first: usize,
@@ -55,8 +55,8 @@ impl NewFace {
     }
 }
 
-// Turns the elements from a place on: the first so many of them come behind the others.
-fn turn_from<T>(list: &mut Vec<T>, first: usize, count: usize)
+// Rotates the elements from a place on: the first so many of them come behind the others.
+fn rotate_from<T>(list: &mut Vec<T>, first: usize, count: usize)
     requires { first + count ≤ length list.old.items }
     ensures items { list.new.items ≡ take first list.old.items ++ (drop count (drop first list.old.items) ++ take count (drop first list.old.items)) }
     ensures capacity { vec_capacity list.new ≡ vec_capacity list.old }
@@ -98,8 +98,8 @@ pub(crate) fn put_between<T: Drop>(list: &mut Vec<T>, first: usize, end: usize, 
         put_over(list, first, end, &mut new);
     } else {
         append_within(list, &mut new);
-        turn_from(list, first, old_count);
+        rotate_from(list, first, old_count);
         list.truncate(list.len() - old_count);
-        turn_from(list, first, list.len() - first - new_count);
+        rotate_from(list, first, list.len() - first - new_count);
     }
 }

@@ -9,7 +9,7 @@ use std::alloc::{AllocError, Global};
 use std::marker::Model;
 use std::sync::Arc;
 
-// A part of a table: a table over some leaves of one face, to be shared, and the place that leads to the heavy pairs over it. Contracts see
+// A part of a table: a table over some leaves of one face, to be shared, and the place of the innermost heavy pair over it. Contracts see
 // what the table shows, and that place.
 #[derive(Debug, Drop)]
 pub(crate) struct Part {
@@ -34,7 +34,7 @@ impl Part {
         &self.table
     }
 
-    // The place that leads to the heavy pairs over it.
+    // The place of the innermost heavy pair over it, from which the chain goes on outwards.
     #[inline]
     pub(crate) fn over(&self) -> Option<HeavyPlace>
         ensures { result ≡ self.now.over }

@@ -13,7 +13,7 @@ use s2ix_bag_lists::{FlatHeld, HeldList};
 use std::alloc::Global;
 
 // The pairs of a face in two layers: light pairs in rising order, and heavy pairs in chunks. All pairs of a cell are in one layer.
-#[derive(Debug, Drop)]
+#[derive(Drop)]
 pub(crate) struct Layers {
     pub(crate) light: Vec<FlatHeld>,
     pub(crate) chunks: Vec<HeldList>,

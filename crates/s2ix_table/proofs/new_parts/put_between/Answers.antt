@@ -14,11 +14,11 @@ returns g c =
     let count = c.len-new_count.ensures in
     let more = ap length c.append_within.ensures in
     let all = length-append xs ys in
-    let turned = length_turned c.append_within.new.list.items c.turn_from.new.list.items c.args.first (c.args.end - c.args.first) (omega arith) c.turn_from.ensures.items in
-    let own = c.turn_from.new.list.ok.0 in
+    let turned = length_turned c.append_within.new.list.items c.rotate_from.new.list.items c.args.first (c.args.end - c.args.first) (omega arith) c.rotate_from.ensures.items in
+    let own = c.rotate_from.new.list.ok.0 in
     let len = c.len.ensures in
     let cut = c.truncate.ensures.len in
     let last = c.len-else-new_count-old_count.ensures in
-    replaced xs ys c.append_within.new.list.items c.turn_from.new.list.items c.truncate.new.self.items _ c.args.first c.args.end _ _
-    c.requires.order c.requires.within c.append_within.ensures c.turn_from.ensures.items c.truncate.ensures.items (omega arith) (omega arith)
-    c.turn_from-else-new_count-old_count.ensures.items
+    replaced xs ys c.append_within.new.list.items c.rotate_from.new.list.items c.truncate.new.self.items _ c.args.first c.args.end _ _
+    c.requires.order c.requires.within c.append_within.ensures c.rotate_from.ensures.items c.truncate.ensures.items (omega arith) (omega arith)
+    c.rotate_from-else-new_count-old_count.ensures.items
