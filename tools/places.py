@@ -69,7 +69,7 @@ def shown_at(path, names):
 def places(word):
     """Pairs of a crate above ids, or a folder beside the crates, and what its files have: each file with the names of what has a line."""
     groups = {crate: files_of(crate) for crate in workspace.CRATES if crate.startswith("s2ix")}
-    groups |= {folder: files_beside(folder) for folder in ("include", "clients", "tests")}
+    groups |= {folder: files_beside(folder) for folder in ("include", "clients", "tests", "tools")}
     for group, paths in groups.items():
         shown = [shown_at(path, names) for path in paths for names in [names_in(path, word)] if names]
         if shown:
