@@ -42,6 +42,7 @@ impl HeavyTable {
             → LieAlike self.now (set self.now chunk.number chunk.held))) }
         ensures cells { IfOk result (λ made. IfSome made (λ _. (e : EntryOf) → Contains entries.now e
             → HoldsCell (all_of self.now) e.pair.cell)) }
+        ensures at_most { IfOk result (λ made. IfSome made (λ chunk. length chunk.held ≤ max_len)) }
     {
         let Some(first) = entries.first() else {
             return Ok(None);

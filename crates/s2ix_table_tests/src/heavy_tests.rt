@@ -6,7 +6,7 @@ ghost use Rattle.s2ix_table_heavy.specs.declared.heavy_place.HeavyPlace.{HeavyPl
 
 use s2id_core::LEAF_END;
 use s2id_samples::cell_of;
-use s2ix_bag_samples::{WIDEST, are_flat_pairs, bag_of, held_of};
+use s2ix_bag_samples::{WIDEST, are_flat_pairs, bag_of, change_of, held_of};
 use s2ix_table_heavy::laws::{
     chunks_are_in_order, cloned_heavy_places_are_the_same, equal_heavy_places_are_one,
     heavy_pairs_have_one_place,
@@ -144,4 +144,38 @@ fn no_heavy_pairs(rt: HostRuntime) {
     assert!(rt; table.chunks().is_empty());
     assert!(rt; lie_over(&table, 1, "", LEAF_END));
     assert!(rt; lacks_cell(&table, "5"));
+}
+
+// Entries of a change, how long a chunk may be, and the number of the chunk into which they all fall, if it keeps a pair and isn't too long.
+const FALLS: [(&str, usize, Option<usize>); 10] = [
+    ("4000000000000001:1:1:5", 2, Some(0)),
+    ("4000000000000001:3:2:1", 2, Some(1)),
+    ("44:5:0:1", 2, Some(2)),
+    ("5:6:0:1", 2, None),
+    ("5:6:0:1", 3, Some(4)),
+    ("5:5:1:0 5:9:0:1", 2, Some(4)),
+    ("5:3:1:0 5:4:2:0", 2, None),
+    ("5:3:1:2 5:5:1:2", 2, None),
+    ("44:6:1:0", 2, None),
+    ("04:1:0:1", 2, None),
+];
+
+// The number of the chunk that a table exchanges for a change, if it makes one.
+fn chunk_for(
+    alloc: Global,
+    table: &HeavyTable,
+    entries: &str,
+    most: usize,
+) -> Option<Option<usize>> {
+    let change = change_of(alloc, entries)?;
+    let made = table.changed_chunk(alloc, change.entries(), most).ok()?;
+    Some(made.map(|chunk| chunk.number))
+}
+
+#[test]
+fn changes_fall_into_chunks(rt: HostRuntime) {
+    let table = table_of(rt.alloc(), PAIRS, 2).expect(&rt, "a table");
+    for &(entries, most, number) in &FALLS {
+        assert!(rt; chunk_for(rt.alloc(), &table, entries, most) == Some(number));
+    }
 }
