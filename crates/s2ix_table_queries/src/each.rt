@@ -141,6 +141,7 @@ fn put_again<R: Copy>(out: &mut [R], from: usize, end: usize) -> Option<usize>
     requires room { end ≤ length out.old }
     ensures same { length out.new ≡ length out.old }
     ensures none { result ≡ None → out.new ≡ out.old }
+    ensures short { result ≡ None → length out.old < end + (end - from) }
     ensures end { IfSome result (λ after. after ≡ end + (end - from)) }
     ensures within { IfSome result (λ after. after ≤ length out.old) }
     ensures put { IfSome result (λ after. take after out.new ≡ take end out.old ++ drop from (take end out.old)) }
