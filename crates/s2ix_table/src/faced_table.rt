@@ -251,12 +251,13 @@ impl FacedTable {
     }
 
     /// Makes this table that of its pairs after a change: `bag` reads the pairs that the change has made of them. The parts that an entry's
-    /// cell touches are made anew or, if the cell is heavy, the chunk that has the entry's pair; the others stay. With q pairs on the f faces
-    /// on which the change has entries and n in all it reads q to q + 2 * f * digits(n + 1) pairs, for the binary digits of n + 1: a whole
-    /// face at once, which a bag hands on as it is. Besides, it takes O(p + m + k) for m entries and the k pairs of what is made anew, and
-    /// O((p + m) log c + c) more under c chunks; but if all entries fall into one chunk, it takes O(log c + m + k), and O(c) more if a copy
-    /// shares the heavy pairs. A face of q pairs that is laid in layers anew takes O(q log q). `OutOfMemory` if a growth is refused: then the
-    /// table shows the same pairs, ranges and borders, with each pair at its place, and it has read at most so many.
+    /// cell touches are made anew or, if the cell is heavy, the chunk that has the entry's pair; the others stay. With q pairs on the f
+    /// faces on which the change has entries and n in all it reads q to q + 2 * f * digits(n + 1) pairs, for the binary digits of n + 1: a
+    /// whole face at once, which a bag hands on as it is. Besides, it takes O(p + m + k) for m entries and the k pairs of what is made
+    /// anew, and O((p + m) log c + c) more under c chunks; but if all entries fall into one chunk, which keeps a pair and doesn't get too
+    /// long, it takes O(log c + m + k), and O(c) more if a copy shares the heavy pairs. A face of q pairs that is laid in layers anew takes
+    /// O(q log q). `OutOfMemory` if a growth is refused: then the table shows the same pairs, ranges and borders, with each pair at its
+    /// place, and it has read at most so many.
     pub fn rebuild<B: PairReader>(
         &mut self,
         alloc: Global,
@@ -310,7 +311,7 @@ impl FacedTable {
         }
     }
 
-    // The same of a change that has entries on one face only. If they fall into one chunk, nothing but this chunk is made anew.
+    // The same of a change that has entries on one face only. If they fall into one chunk, and this stays one, only the chunk is made anew.
     fn change_face(
         &mut self,
         alloc: Global,

@@ -213,7 +213,7 @@ fn are_rising(leaves: &[CellId]) -> bool {
 }
 
 // Searches each list for the last start that is not after the leaf beside it, from a place on whose start isn't after it either, each search
-// a step in turn. It finds those that are among the next `most` places.
+// a step in turn. It finds those that are among the `most` places from there on.
 #[inline]
 fn search_side_by_side(
     lists: &[&[u64]; BATCH],

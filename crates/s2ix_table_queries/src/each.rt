@@ -133,8 +133,8 @@ fn put_leaf<T: RangeTable, R: OfHeld>(
     put_chain(table, contents.rest, out, at)
 }
 
-// Puts the last items of a buffer, those from one place on up to another, behind these again; returns where they end, or `None` if there is
-// no room for them all.
+// Copies the items from one place on up to another behind themselves; returns where the copies end, or `None` if there is no room for them
+// all.
 #[inline(always)]
 fn put_again<R: Copy>(out: &mut [R], from: usize, end: usize) -> Option<usize>
     requires order { from ≤ end }
@@ -193,7 +193,7 @@ struct Done {
 }
 
 // Answers the leaves from one on that lie in the span of contents, as long as there is room. What lies over them is put already, for the leaf
-// before them: it is what was put from the place `from` on.
+// before them: it is what was put from the place `from` on. No clause says how many are answered: this only saves work.
 #[inline(always)]
 fn put_same<T: RangeTable, R: OfHeld>(
     table: &T,

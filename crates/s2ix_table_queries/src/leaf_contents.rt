@@ -31,6 +31,7 @@ impl<P: Copy> LeafContents<'_, P> {
         ensures limit { IsTrue result → number < self.now.limit }
         ensures over { self.now.start ≤ number → number < self.now.limit → IsTrue result }
     {
+        // a number before the start wraps to a great one
         number.wrapping_sub(self.start) < self.limit.saturating_sub(self.start)
     }
 }
