@@ -13,6 +13,8 @@ enum { COMES = 1000, ROUNDS = 8, ADDED = 8, MISSING = 1000000000 };
 enum { PAIRS = 1000000, COPIES = 9, CHANGES = 1000, ROOM = 1 << 21, ASKED = 100, CELLS = 8 };
 /* A page, and where it begins. */
 enum { PAGE = 256, FROM = 5000 };
+/* So many labels are put on face 0, over all groups there. */
+enum { ON_FACE = 20000 };
 
 static s2ix_row rows[HELD], found[HELD];
 static s2ix_leaf_range ranges[PAGE];
@@ -63,6 +65,10 @@ CALL(ask_targets) {
 CALL(page_of_pairs) { return (void)label, s2ix_pairs(handle, FROM, found, PAGE, &number); }
 CALL(page_of_ranges) { return (void)label, s2ix_ranges(handle, FROM, ranges, PAGE, &number); }
 
+#define FACE (UINT64_C(1) << 60)
+CALL(add_on_face) { return s2ix_add(handle, FACE, label, 1, &number); }
+CALL(remove_on_face) { return s2ix_remove(handle, FACE, label, 1, &number); }
+
 /* Makes a call, whose instructions Callgrind counts. */
 uint32_t counted(call *made, s2ix_handle *handle, uint32_t label) { return made(handle, label); }
 
@@ -106,6 +112,22 @@ static void edit_by_label(s2ix_handle *handle) {
         count(edits[k].name, "a dump", edits[k].edit, handle, OF_NEIGHBOURS, S2IX_DONE);
         EXPECT(s2ix_undo(handle, &number), S2IX_DONE);
     }
+}
+
+/* Edits pairs of a cell with many labels over many parts: the first of its labels, one in the middle and the last, alone and beside a copy. */
+static void edit_over_parts(void) {
+    static const unsigned asked[] = {0, ON_FACE / 2, ON_FACE};
+    s2ix_handle handle = {0}, copy = {0};
+    EXPECT(s2ix_load(&handle, before, before_len, PAIRS, COPIES, 2 * ON_FACE, &place), S2IX_DONE);
+    for (unsigned k = 0; k <= ON_FACE; k++) EXPECT(add_on_face(&handle, COMES + 2 * k), S2IX_DONE);
+    for (size_t k = 0; k < sizeof asked / sizeof *asked; k++) {
+        count("pair over parts", "added", add_on_face, &handle, COMES + 2 * asked[k] + 1, S2IX_DONE);
+        count("pair over parts", "removed", remove_on_face, &handle, COMES + 2 * asked[k], S2IX_DONE);
+        EXPECT(s2ix_copy(&handle, &copy), S2IX_DONE);
+        count("pair over parts, and a copy", "added", add_on_face, &handle, COMES + 2 * asked[k], S2IX_DONE);
+        s2ix_close(&copy);
+    }
+    s2ix_close(&handle);
 }
 
 /* Adds a pair of a new label beside each group, then drops label 0, step by step. */
@@ -173,6 +195,7 @@ int main(void) {
     EXPECT(s2ix_load(&handle, before, before_len, PAIRS, COPIES, CHANGES, &place), S2IX_DONE);
     ask(&handle, "a dump", NEIGHBOURS);
     edit_by_label(&handle);
+    edit_over_parts();
     edit_singly(&handle);
     ask(&handle, "single edits", 0);
     EXPECT(s2ix_dump(&handle, after, ROOM, &after_len), S2IX_DONE);
