@@ -111,15 +111,6 @@ pub record ChunksMade (total : Collection) (made ahead : List Collection) (rest 
   pub rise : IsChangeList rest
   pub whole : all_of made ++ changed (all_of ahead) rest ≡ total
 
-no_chunks : AreChunks []
-no_chunks = record { rises = tt; within_limit = omega arith; filled = tt; one_cell = λ chunk (k, lt, e). absurd (omega arith) }
-
-pub none_made : (made chunks : List Collection) (es : List Entry) → made ≡ [] → AreChunks chunks → IsChangeList es
-    → ChunksMade (changed (all_of chunks) es) made chunks es
-none_made made chunks es none are rise =
-    subst (λ ms. ChunksMade (changed (all_of chunks) es) ms chunks es) (sym none)
-    (record { are_chunks = no_chunks; ahead_are = are; rise = rise; whole = refl })
-
 -- what is known of the next chunk and of its entries
 pub record IsNext (total : Collection) (made : List Collection) (chunk : Collection) (own : List Entry) (ahead : List Collection) (rest : List Entry) : Type 0 where
   pub some : 0 < length chunk

@@ -1,6 +1,6 @@
 -- A change, cut at a seam between neighbouring tables.
 use Rattle.std.proofs.Common.{◌≡◌, ℕ, zero, suc, ◌+◌, ◌-◌, ◌*◌, ◌%◌, ◌<◌, ◌≤◌, List, [], ◌∷◌, ◌++◌, take, drop, get_or, length, refl, sym, ap, ap₂, ◌∙◌, subst, arith, append_assoc}
-use Rattle.std.proofs.lemmas.List.{length-append, take-append-drop, take_all, drop_all, drop_more}
+use Rattle.std.proofs.lemmas.List.{length-append, take-append-drop, drop_more}
 use Rattle.s2id_core.specs.CellId.{raw_of, first_of, end_of}
 use Rattle.s2id_core.specs.declared.cell_id.CellId.{CellId}
 use Rattle.s2id_core.proofs.Lists.{none_in_nil, at_head, in_tail}
@@ -179,43 +179,7 @@ clean_cut b from to k l e d ts ls es within lists_fit entries_fit at was end beg
       };
     }
 
--- ---- all of it, or nothing
-
-nothing_changed : (n : ℕ) → IsChangedSpan [] [] [] n n
-nothing_changed n = record {
-  neighbours = refl;
-  made = refl;
-  entries_rise = tt;
-  rises = tt;
-  within_limit = omega arith;
-  begins = λ h is. absurd (none_in_nil h is);
-  ends = λ h is. absurd (none_in_nil h is);
-}
-
--- a cut before all
-pub no_cut : (from to : ℕ) (ts : List SpanRanges) (ls : List Collection) (es : List Entry) → IsChangedSpan ts ls es from to
-    → IsCut ts ls es from to 0 0 0 from
-no_cut from to ts ls es was =
-    record { tables_fit = omega arith; lists_fit = omega arith; entries_fit = omega arith; own = nothing_changed from; later = was }
-
-pub whole_cut : (from to k l e : ℕ) (ts : List SpanRanges) (ls : List Collection) (es : List Entry) → k ≡ length ts → l ≡ length ls
-    → e ≡ length es → IsChangedSpan ts ls es from to → IsCut ts ls es from to k l e to
-whole_cut from to k l e ts ls es all_tables all_lists all_entries was =
-    let long : length ts ≤ k = omega arith in
-    let lists_long : length ls ≤ l = omega arith in
-    let entries_long : length es ≤ e = omega arith in
-    let IsOwn : List SpanRanges → List Collection → List Entry → Type 0 = λ xs ys zs. IsChangedSpan xs ys zs from to in
-    let IsLater : List SpanRanges → List Collection → List Entry → Type 0 = λ xs ys zs. IsChangedSpan xs ys zs to to in
-    let later = nothing_changed to in
-    record {
-      tables_fit = omega arith;
-      lists_fit = omega arith;
-      entries_fit = omega arith;
-      own = subst (λ xs. IsOwn xs (take l ls) (take e es)) (sym (take_all k ts long))
-          (subst (λ ys. IsOwn ts ys (take e es)) (sym (take_all l ls lists_long)) (subst (λ zs. IsOwn ts ls zs) (sym (take_all e es entries_long)) was));
-      later = subst (λ xs. IsLater xs (drop l ls) (drop e es)) (sym (drop_all k ts long))
-          (subst (λ ys. IsLater [] ys (drop e es)) (sym (drop_all l ls lists_long)) (subst (λ zs. IsLater [] [] zs) (sym (drop_all e es entries_long)) later));
-    }
+-- ---- nothing
 
 pub none_held : (ts : List SpanRanges) → length ts ≡ 0 → held_in ts ≡ []
 none_held [] none = refl
@@ -288,9 +252,6 @@ lists_from r k ls d within rise some own =
     let later = back_rises 0 (all_of (take k ls)) (all_of (drop k ls)) (subst (λ hs. IsCollectionFrom 0 hs) (sym (split_lists k ls)) rise) in
     subst (λ hs. IsCollectionFrom r hs) (sym is)
     (from_first r 0 (get_or ls k d) (all_of (drop (k + 1) ls)) (subst (λ hs. IsCollectionFrom 0 hs) is later) some own)
-
-pub lists_none : (r k : ℕ) (ls : List Collection) → k ≡ length ls → IsCollectionFrom r (all_of (drop k ls))
-lists_none r k ls all = subst (λ (xs : List Collection). IsCollectionFrom r (all_of xs)) (sym (drop_all k ls (omega arith))) tt
 
 -- all pairs are below a rank if the last one is
 below_by_last : (r n : ℕ) (hs : Collection) (d : Held) → IsCollectionFrom n hs → rank_of (get_or hs (length hs - 1) d).pair < r → AreBelow r hs

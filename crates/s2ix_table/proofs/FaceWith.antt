@@ -92,22 +92,6 @@ all_give_way face n held parts made overs made_overs heavy all many layered pair
       pairs = ap (λ ts. together (held_in ts) (all_of heavy)) now ∙ pairs;
     }
 
--- ---- none gives way
-
-pub none_gives_way : (face : ℕ) (parts made : List SpanRanges) (overs made_overs : List (Option HeavyPlace)) (heavy now : List Collection)
-    → IsFaceLayered face heavy parts overs → made ≡ [] → made_overs ≡ [] → now ≡ heavy
-    → IsFaceWith face (together (held_in parts) (all_of heavy)) parts overs 0 0 made made_overs now
-none_gives_way face parts made overs made_overs heavy now layered none no_overs same =
-    subst (λ hs. IsFaceWith face (together (held_in parts) (all_of heavy)) parts overs 0 0 made made_overs hs) (sym same)
-    (subst (λ os. IsFaceWith face (together (held_in parts) (all_of heavy)) parts overs 0 0 made os heavy) (sym no_overs)
-    (subst (λ ts. IsFaceWith face (together (held_in parts) (all_of heavy)) parts overs 0 0 ts [] heavy) (sym none) (record {
-      order = omega arith;
-      within = omega arith;
-      many = refl;
-      layered = layered;
-      pairs = refl;
-    })))
-
 -- the same, by what gives way
 pub all_given : (face count first end : ℕ) (held : Collection) (parts made : List SpanRanges) (overs made_overs : List (Option HeavyPlace)) (heavy : List Collection)
     → first ≡ 0 → end ≡ count → count ≡ length parts → length overs ≡ length parts → IsFaceLayered face heavy made made_overs

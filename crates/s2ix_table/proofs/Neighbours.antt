@@ -1,5 +1,5 @@
 -- The table of neighbouring spans.
-use Rattle.std.proofs.Common.{◌≡◌, ℕ, zero, suc, ◌%◌, ◌<◌, ◌≤◌, inl, inr, List, [], ◌∷◌, ◌++◌, length, get_or, append_assoc, ◌∙◌, arith, Contains, subst}
+use Rattle.std.proofs.Common.{◌≡◌, ℕ, zero, suc, ◌%◌, ◌<◌, ◌≤◌, inl, inr, List, [], ◌∷◌, ◌++◌, length, get_or, ◌∙◌, arith, Contains, subst}
 use Rattle.std.proofs.lemmas.List.Elements.{Contains-append_cases}
 use Rattle.s2id_core.specs.CellId.{end_of}
 use Rattle.s2id_core.proofs.Lists.{none_in_nil}
@@ -10,7 +10,7 @@ use Rattle.s2ix_table_walk.specs.Table.{Range, IsTableOver}
 use Rattle.s2ix_table_walk.proofs.Tables.{IsTable, table_rises, table_from_places, places_from_table}
 use Rattle.s2ix_table_spans.specs.SpanTable.{SpanRanges, IsSpanTable}
 use Rattle.s2ix_table.specs.Joined.{held_in, joined_ranges, AreNeighbours}
-use Rattle.s2ix_table.proofs.Appended.{EndBy, BeginFrom, both_rise, contents_front, contents_back}
+use Rattle.s2ix_table.proofs.Appended.{EndBy, BeginFrom, both_rise}
 use Rattle.s2ix_table.proofs.Joining.{join_tables}
 
 pub all_begin : (from : ℕ) (tables : List SpanRanges) (to : ℕ) → AreNeighbours from tables to → BeginFrom (held_in tables) from
@@ -71,18 +71,6 @@ same_over hs ks from (r ∷ rs) to same t =
       same_over hs ks r.limit rs to (λ q odd ge lt. same q odd (omega arith) lt) t.2,
     )
 
-over_own : (hs : Collection) (t : SpanRanges) (ks : Collection) → IsSpanTable t → EndBy hs t.from → BeginFrom ks t.to
-    → IsOverSpan (hs ++ (t.held ++ ks)) t
-over_own hs t ks is end begin =
-    let some = is.within.some in
-    record {
-      some = some;
-      table = places_from_table (hs ++ (t.held ++ ks)) t.from t.to t.ranges some
-          (same_over t.held (hs ++ (t.held ++ ks)) t.from t.ranges t.to
-          (λ q odd ge lt. contents_back q t.from hs (t.held ++ ks) ge end ∙ contents_front q t.to t.held ks lt begin)
-          (table_from_places t.held t.from t.to t.ranges is.table));
-    }
-
 pub end_later : (hs own : Collection) (from to : ℕ) → from ≤ to → EndBy hs from → ((h : Held) → Contains own h → end_of h.pair.cell ≤ to)
     → EndBy (hs ++ own) to
 end_later hs own from to le end ends h held =
@@ -90,27 +78,6 @@ end_later hs own from to le end ends h held =
       | inl before ↦ (let by = end h before in omega arith)
       | inr in_own ↦ ends h in_own
     ]
-
-over_after : (hs : Collection) (from : ℕ) (tables : List SpanRanges) (to : ℕ) → EndBy hs from → AreNeighbours from tables to
-    → AreOverSpans (hs ++ held_in tables) from tables to
-over_after hs from [] to end are = are
-over_after hs from (t ∷ ts) to end are =
-    let e = are.0 in
-    let some = are.1.within.some in
-    let here : EndBy hs t.from = λ h held. let by = end h held in omega arith in
-    let rest = over_after (hs ++ t.held) t.to ts to (end_later hs t.held from t.to (omega arith) end are.1.within.ends) are.2 in (
-      are.0,
-      over_own hs t (held_in ts) are.1 here (all_begin t.to ts to are.2),
-      subst (λ ks. AreOverSpans ks t.to ts to) (append_assoc hs t.held (held_in ts)) rest,
-    )
-
-pub over_spans : (from : ℕ) (tables : List SpanRanges) (to : ℕ) → AreNeighbours from tables to → AreOverSpans (held_in tables) from tables to
-over_spans from tables to are = over_after [] from tables to (λ h held. absurd (none_in_nil h held)) are
-
--- the joined ranges of neighbours are a table over them all
-pub joined_table : (from : ℕ) (tables : List SpanRanges) (to : ℕ) → from < to → AreNeighbours from tables to
-    → IsTableOver (held_in tables) from to (joined_ranges tables)
-joined_table from tables to lt are = table_over_spans (held_in tables) from tables to lt (over_spans from tables to are)
 
 -- each of them has its ranges
 pub span_known : (from : ℕ) (tables : List SpanRanges) (to i : ℕ) (d : SpanRanges) → AreNeighbours from tables to → i < length tables

@@ -9,16 +9,6 @@ use Rattle.s2ix_table.specs.Offsets.{offset_after, offsets_from}
 
 -- ---- some elements give way to others
 
-drop_none : {A : Type 0} (n : ℕ) (xs : List A) → xs ≡ [] → drop n xs ≡ []
-drop_none zero xs none = none
-drop_none (suc n) [] none = refl
-drop_none (suc n) (x ∷ xs) none = absurd (let long = ap length none in omega (arith, long))
-
-pub drop_on : {A : Type 0} (a n : ℕ) (xs : List A) → drop n (drop a xs) ≡ drop (a + n) xs
-drop_on zero n xs = ap (λ k. drop k xs) (let e : n ≡ 0 + n = omega arith in e)
-drop_on (suc a) n [] = drop_none n [] refl ∙ sym (drop_none (suc a + n) [] refl)
-drop_on (suc a) n (x ∷ xs) = drop_on a n xs ∙ ap (λ k. drop k (x ∷ xs)) (let e : suc (a + n) ≡ suc a + n = omega arith in e)
-
 -- the offsets of those before them stay
 pub first_alone : (o : Offset) (t : SpanRanges) (ts : List SpanRanges) → take 1 (offsets_from o (t ∷ ts)) ≡ o ∷ []
 first_alone o t [] = refl

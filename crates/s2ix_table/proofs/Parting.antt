@@ -163,16 +163,6 @@ parting_start held from to seams rises within_limit within are =
       ends = within.ends;
     }
 
-pub rest_in_span : (held : List Collection) (from to : ℕ) (parts : List SpanRanges) (rest : List Collection) (seams : List ℕ) (start : ℕ)
-    → Parting held from to parts rest seams start → start < to → IsInSpan (all_of rest) start to
-rest_in_span held from to parts rest seams start was lt = record {
-  odd = was.odd;
-  odd_end = was.odd_end;
-  some = lt;
-  begins = was.begins;
-  ends = was.ends;
-}
-
 pub own_rises : (n k : ℕ) (rest : List Collection) → IsCollectionFrom n (all_of rest) → IsCollectionFrom n (all_of (take k rest))
 own_rises n k rest rise =
     front_rises n (all_of (take k rest)) (all_of (drop k rest)) (subst (λ hs. IsCollectionFrom n hs) (sym (split_lists k rest)) rise)

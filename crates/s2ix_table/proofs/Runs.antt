@@ -40,16 +40,6 @@ first_run_more hs n h first are lt is is_first same k d less within =
       | inr ne ↦ are k d (omega (arith, ne)) within
     ]
 
--- they are of one cell
-pub first_of_one_cell : (hs : Collection) (n : ℕ) → AreOfFirstCell hs n → IsOfOneCell (take n hs)
-first_of_one_cell hs n are a b in_a in_b =
-    let p = in_take n hs a in_a in
-    let q = in_take n hs b in_b in
-    let cell : Held → CellId = λ h. h.pair.cell in
-    ap cell (sym p.is) ∙ are p.place a p.not_after p.within
-    ∙ ap cell (get_or_default hs 0 a b (let lt = p.within in omega arith))
-    ∙ sym (are q.place b q.not_after q.within) ∙ ap cell q.is
-
 -- if the pair behind them has another cell, all that follow have later ones
 pub later_cells : (hs : Collection) (n : ℕ) (d : Held) → IsCollection hs → 0 < n → AreOfFirstCell hs n
     → (n < length hs → (get_or hs n d).pair.cell ≡ (get_or hs 0 d).pair.cell → ⊥) → HaveLesserCells (take n hs) (drop n hs)

@@ -2,7 +2,7 @@
 use Rattle.std.proofs.Common.{◌≡◌, ◌≢◌, ℕ, zero, suc, ◌+◌, ◌-◌, ◌<◌, ◌≤◌, inl, inr, Option, List, [], ◌∷◌, ◌++◌, length, take, drop, refl, sym, ◌∙◌, ap, ap₂, arith, Contains, subst, append_assoc}
 use Rattle.std.proofs.Math.Seq.{take-add}
 use Rattle.std.proofs.lemmas.Bool.{cases_lt}
-use Rattle.std.proofs.lemmas.List.{append-nil, take_rest}
+use Rattle.std.proofs.lemmas.List.{append-nil, take_rest, drop-drop}
 use Rattle.s2ix_bag_lists.specs.Faces.{all_of}
 use Rattle.s2ix_bag_pairs.specs.Collection.{Collection, IsCollection}
 use Rattle.s2ix_bag_pairs.specs.declared.pair.Held.{Held}
@@ -25,7 +25,6 @@ use Rattle.s2ix_table.proofs.HeavyFaces.{many_led}
 use Rattle.s2ix_table.proofs.LayersChanged.{on_face_together}
 use Rattle.s2ix_table.proofs.LayersMade.{AreAllMade, AreLayersMade, all_layers, layers_more, no_layers, overs_on_face}
 use Rattle.s2ix_table.proofs.Neighbours.{all_rise}
-use Rattle.s2ix_table.proofs.OneFace.{drop_on}
 
 -- ---- the faces of a table
 
@@ -161,7 +160,7 @@ next_up base xs c a b le more =
     let sum : (a - c) + (b - a) ≡ b - c = omega arith in
     let there : c + (a - c) ≡ a = omega arith in
     ap (λ m. base ++ take m (drop c xs)) (sym sum)
-    ∙ ap (λ ts. base ++ ts) (take-add (a - c) (b - a) (drop c xs) ∙ ap (λ ts. take (a - c) (drop c xs) ++ take (b - a) ts) (drop_on c (a - c) xs ∙ ap (λ k. drop k xs) there))
+    ∙ ap (λ ts. base ++ ts) (take-add (a - c) (b - a) (drop c xs) ∙ ap (λ ts. take (a - c) (drop c xs) ++ take (b - a) ts) (drop-drop (a - c) c xs ∙ ap (λ k. drop k xs) there))
     ∙ sym (append_assoc base (take (a - c) (drop c xs)) (take (b - a) (drop a xs)))
 
 layers_after : (old hs : Collection) (heavy now : List (List Collection)) (parts base : List SpanRanges) (overs base_overs : List (Option HeavyPlace)) (faces : List ℕ) (face k : ℕ)
@@ -217,7 +216,7 @@ within_all a n f e xs made order within =
     let front : take (a + f) xs ≡ take a xs ++ take f (take n own) =
     take-add a f xs ∙ ap (λ ys. take a xs ++ ys) (sym (take_front f n own (omega arith))) in
     let back : drop (a + e) xs ≡ drop e (take n own) ++ drop (a + n) xs =
-    sym (drop_on a e xs) ∙ sym (drop_through e n own within) ∙ ap (λ ys. drop e (take n own) ++ ys) (drop_on a n xs) in
+    sym (drop-drop e a xs) ∙ sym (drop_through e n own within) ∙ ap (λ ys. drop e (take n own) ++ ys) (drop-drop n a xs) in
     let four : (p q r s t : List _) → (p ++ q) ++ (r ++ (s ++ t)) ≡ (p ++ (q ++ (r ++ s))) ++ t =
     λ p q r s t.
     ap (λ ys. (p ++ q) ++ ys) (sym (append_assoc r s t))

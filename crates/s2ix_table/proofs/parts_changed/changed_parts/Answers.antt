@@ -1,5 +1,5 @@
 use Rattle.std.proofs.Common.{◌≡◌, ℕ, ◌+◌, List, ◌++◌, length, take, drop, sym, ap, ◌∙◌, subst, arith}
-use Rattle.std.proofs.lemmas.List.{length-drop}
+use Rattle.std.proofs.lemmas.List.{length-drop, drop-drop}
 use Rattle.s2ix_bag_lists.specs.Faces.{all_of}
 use Rattle.s2ix_bag_pairs.specs.Change.{changed}
 use Rattle.s2ix_bag_pairs.specs.Collection.{Collection}
@@ -10,7 +10,6 @@ use Rattle.s2ix_table.specs.Joined.{AreNeighbours, held_in}
 use Rattle.s2ix_table.specs.Parts.{AreBegins}
 use Rattle.s2ix_table.proofs.Parting.{split_lists}
 use Rattle.s2ix_table.proofs.Cutting.{changed_same, spans_dropped, neighbours_append, held_append}
-use Rattle.s2ix_table.proofs.OneFace.{drop_on}
 use Rattle.s2ix_table.proofs.Shared.{many_shared}
 use Rattle.s2ix_table.proofs.parts_changed.changed_parts.Goals as goal
 
@@ -50,7 +49,7 @@ returns-clause-neighbours c =
     let made = tables_of c.in_ok-count.parts.items in
     let count = c.in_ok-count.count in
     let tail : drop count (spans_of c.after.result.tables.now) ≡ drop (front.tables + count) spans =
-    ap (λ ts. drop count ts) (ap spans_of is.tables ∙ spans_dropped front.tables c.args.before.now) ∙ drop_on front.tables count spans in
+    ap (λ ts. drop count ts) (ap spans_of is.tables ∙ spans_dropped front.tables c.args.before.now) ∙ drop-drop count front.tables spans in
     let back =
     subst (λ (ts : List SpanRanges). AreNeighbours front.seam (made ++ ts) c.args.to) tail
     (subst (λ (n : ℕ). AreNeighbours front.seam (made ++ drop count (spans_of c.after.result.tables.now)) n) is.to
@@ -67,7 +66,7 @@ returns-clause-pairs c =
     let made = tables_of c.in_ok-count.parts.items in
     let count = c.in_ok-count.count in
     let tail : drop count (spans_of c.after.result.tables.now) ≡ drop (front.tables + count) spans =
-    ap (λ ts. drop count ts) (ap spans_of is.tables ∙ spans_dropped front.tables c.args.before.now) ∙ drop_on front.tables count spans in
+    ap (λ ts. drop count ts) (ap spans_of is.tables ∙ spans_dropped front.tables c.args.before.now) ∙ drop-drop count front.tables spans in
     let first : held_in (take front.tables spans) ≡ all_of (take front.lists held) =
     sym (ap (λ (n : ℕ). changed (held_in (take front.tables spans)) (take n c.args.entries.now)) c.front_cut-front.ensures.entries)
     ∙ c.front_cut-front.ensures.cut.own.made in

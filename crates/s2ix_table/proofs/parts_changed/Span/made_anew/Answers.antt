@@ -1,5 +1,5 @@
 use Rattle.std.proofs.Common.{ℕ, List, ◌++◌, length, take, drop, sym, ap, ◌∙◌, subst, subst₂, arith, append_assoc}
-use Rattle.std.proofs.lemmas.List.{length-drop}
+use Rattle.std.proofs.lemmas.List.{length-drop, drop-drop}
 use Rattle.s2ix_bag_lists.specs.Faces.{all_of}
 use Rattle.s2ix_bag_pairs.specs.Collection.{Collection}
 use Rattle.s2ix_bag_pairs.specs.declared.pair.Entry.{Entry}
@@ -9,7 +9,6 @@ use Rattle.s2ix_table.specs.Joined.{AreNeighbours, held_in}
 use Rattle.s2ix_table.specs.Parts.{AreBegins}
 use Rattle.s2ix_table.proofs.Parting.{split_lists}
 use Rattle.s2ix_table.proofs.Cutting.{begins_count, begins_later, changed_same, spans_taken, spans_dropped, neighbours_append, held_append}
-use Rattle.s2ix_table.proofs.OneFace.{drop_on}
 use Rattle.s2ix_table.proofs.Shared.{many_shared}
 use Rattle.s2ix_table.proofs.parts_changed.Span.made_anew.Goals as goal
 
@@ -65,7 +64,7 @@ loop-rest-preserved c =
     ∙ append_assoc (held_in old) (all_of (take cut.lists rest.lists.now)) (all_of (drop cut.lists rest.lists.now))
     ∙ ap (λ (hs : Collection). held_in old ++ hs) (split_lists cut.lists rest.lists.now)
     ∙ was.3 in
-    (changed_is, begins, neighbours, pairs, is.to ∙ was.4, omega (arith, was.5), is.tables ∙ ap (drop cut.tables) tables ∙ drop_on c.loop-rest.count cut.tables c.args.self.tables.now)
+    (changed_is, begins, neighbours, pairs, is.to ∙ was.4, omega (arith, was.5), is.tables ∙ ap (drop cut.tables) tables ∙ drop-drop cut.tables c.loop-rest.count c.args.self.tables.now)
 
 pub returns-clause-neighbours : goal.returns-clause-neighbours
 returns-clause-neighbours c =
