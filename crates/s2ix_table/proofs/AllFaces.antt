@@ -10,11 +10,11 @@ use Rattle.s2ix_bag_pairs.specs.Label.{value_of}
 use Rattle.s2ix_bag_pairs.specs.declared.pair.Held.{Held}
 use Rattle.s2ix_table_walk.proofs.Lists.{later_rank}
 use Rattle.s2ix_table.specs.Faces.{held_on}
-use Rattle.s2ix_table.proofs.HeldWhere.{where_rises}
+use Rattle.s2ix_table_parts.proofs.HeldWhere.{where_rises}
 use Rattle.s2ix_table.proofs.Unchanged.{on_face, off_face}
-use Rattle.s2ix_table.specs.FaceSpans.{face_begin, AreOnFace}
+use Rattle.s2ix_table_parts.specs.FaceSpans.{face_begin, AreOnFace}
 use Rattle.s2ix_table_walk.proofs.OnFaces.{six_faces}
-use Rattle.s2ix_table.proofs.InSpans.{raw_on_face}
+use Rattle.s2ix_table_parts.proofs.InSpans.{raw_on_face}
 
 unfoldable pub faces_from : ℕ → ℕ → List ℕ
 faces_from n zero = []

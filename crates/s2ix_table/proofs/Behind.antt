@@ -9,8 +9,8 @@ use Rattle.s2ix_table_spans.specs.Chains.{chain_of}
 use Rattle.s2ix_table_spans.specs.SpanTable.{SpanRanges}
 use Rattle.s2ix_table.specs.declared.part_place.FacedPlace.TheVariants.{Light}
 use Rattle.s2ix_table.specs.declared.part_place.PartPlace.{PartPlace}
-use Rattle.s2ix_table.specs.FaceSpans.{table_of}
-use Rattle.s2ix_table.specs.Layered.{heavy_in}
+use Rattle.s2ix_table_parts.specs.FaceSpans.{table_of}
+use Rattle.s2ix_table.specs.Layout.{heavy_in}
 use Rattle.s2ix_table.specs.PartPlaces.{chain_from, faced_chain, with_behind}
 
 pub behind_some : (hs over : Collection) → 0 < length hs → with_behind hs over ≡ hs ++ over

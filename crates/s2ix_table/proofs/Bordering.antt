@@ -4,10 +4,11 @@ use Rattle.s2ix_table_walk.specs.Shown.{AreBorders}
 use Rattle.s2ix_table_walk.specs.Table.{range_at, leaf_end}
 use Rattle.s2ix_table_spans.specs.SpanTable.{SpanRanges}
 use Rattle.s2ix_table.specs.declared.offset.Offset.{Offset}
-use Rattle.s2ix_table.specs.FaceSpans.{no_table}
-use Rattle.s2ix_table.specs.Joined.{joined_ranges, AreNeighbours}
+use Rattle.s2ix_table_parts.specs.FaceSpans.{no_table}
+use Rattle.s2ix_table.specs.Joined.{joined_ranges}
+use Rattle.s2ix_table_parts.specs.Neighbours.{AreNeighbours}
 use Rattle.s2ix_table.specs.Offsets.{places_of}
-use Rattle.s2ix_table.specs.Layered.{covered}
+use Rattle.s2ix_table.specs.Layout.{covered}
 use Rattle.s2ix_bag_pairs.specs.Collection.{Collection}
 use Rattle.s2ix_table.specs.Whole.{AreJoined}
 use Rattle.s2ix_table.proofs.Reading.{no_offset, many_places, place_of, placed, places_rise}

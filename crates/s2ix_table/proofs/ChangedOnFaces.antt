@@ -13,8 +13,8 @@ use Rattle.s2ix_bag_pairs.specs.declared.pair.Entry.{Entry}
 use Rattle.s2ix_bag_pairs.proofs.Changes.{change_lower}
 use Rattle.s2ix_table.specs.Faces.{held_on, entries_on}
 use Rattle.s2ix_table.proofs.AllFaces.{face_rises, raw_rises}
-use Rattle.s2ix_table.proofs.HeldWhere.{changed_where}
-use Rattle.s2ix_table.proofs.InSpans.{raw_on_face}
+use Rattle.s2ix_table_parts.proofs.HeldWhere.{changed_where}
+use Rattle.s2ix_table_parts.proofs.InSpans.{raw_on_face}
 
 -- ---- a whole change
 

@@ -10,13 +10,15 @@ use Rattle.s2ix_table_walk.specs.Table.{IsTableOver}
 use Rattle.s2ix_table_walk.proofs.Over.{IsOver, in_contents, contents_has}
 use Rattle.s2ix_table_walk.proofs.Tables.{table_from_places, places_from_table}
 use Rattle.s2ix_table_spans.specs.SpanTable.{SpanRanges, IsSpanTable}
-use Rattle.s2ix_table.specs.Joined.{held_in, joined_ranges, AreNeighbours}
-use Rattle.s2ix_table.specs.Layers.{together, ShareNoCell, AreUnder, with_over}
-use Rattle.s2ix_table.specs.Layered.{AreAllUnder, cover, covered}
-use Rattle.s2ix_table.proofs.Appended.{EndBy, contents_front, contents_back}
-use Rattle.s2ix_table.proofs.Layers.{cells_part_pairs}
+use Rattle.s2ix_table_parts.specs.Neighbours.{held_in, AreNeighbours}
+use Rattle.s2ix_table.specs.Joined.{joined_ranges}
+use Rattle.s2ix_table_parts.specs.Layers.{together, ShareNoCell, AreUnder}
+use Rattle.s2ix_table.specs.Layout.{with_over, AreAllUnder, cover, covered}
+use Rattle.s2ix_table_parts.proofs.Appended.{EndBy, contents_front, contents_back}
+use Rattle.s2ix_table_parts.proofs.Layers.{cells_part_pairs}
 use Rattle.s2ix_table.proofs.LayersOver.{AreDeeper, deeper_in_span, together_contents, table_with}
-use Rattle.s2ix_table.proofs.Neighbours.{AreOverSpans, IsOverSpan, all_begin, all_rise, end_later, same_over, table_over_spans}
+use Rattle.s2ix_table.proofs.Joining.{AreOverSpans, IsOverSpan, end_later, same_over, table_over_spans}
+use Rattle.s2ix_table_parts.proofs.Neighbours.{all_begin, all_rise}
 
 -- ---- one part
 

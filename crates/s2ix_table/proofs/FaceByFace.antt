@@ -10,13 +10,14 @@ use Rattle.s2ix_bag_pairs.specs.Collection.{Collection, IsCollection}
 use Rattle.s2ix_bag_pairs.specs.declared.pair.Held.{Held}
 use Rattle.s2ix_table_walk.proofs.OnFaces.{six_faces}
 use Rattle.s2ix_table.specs.Faces.{held_on}
-use Rattle.s2ix_table.specs.FaceSpans.{AreOnFace}
-use Rattle.s2ix_table.specs.Layered.{chunks_on, heavy_in}
-use Rattle.s2ix_table.specs.Layers.{ShareNoCell}
+use Rattle.s2ix_table_parts.specs.FaceSpans.{AreOnFace}
+use Rattle.s2ix_table.specs.Layout.{chunks_on, heavy_in}
+use Rattle.s2ix_table_parts.specs.Layers.{ShareNoCell, together}
 use Rattle.s2ix_table.proofs.AllFaces.{faces_from, on_each, made_up}
-use Rattle.s2ix_table.proofs.HeldWhere.{all_where, none_where, in_where}
+use Rattle.s2ix_table_parts.proofs.HeldWhere.{all_where, none_where, in_where}
 use Rattle.s2ix_table.proofs.OnFaces.{both_kept}
 use Rattle.s2ix_table.proofs.Unchanged.{on_face, off_face}
+use Rattle.s2ix_table_parts.proofs.LayersChanged.{where_together}
 
 -- what lies on a face is held
 pub held_there : (face : ℕ) (hs : Collection) (h : Held) → Contains (held_on face hs) h → Contains hs h
@@ -102,3 +103,8 @@ apart_by_faces light heavy apart l h in_light in_heavy same =
     let face = face_of l.pair.cell in
     let on = ap face_of (same_cell h.pair.cell l.pair.cell (sym same)) in
     apart face (six_faces l.pair.cell) l h (there_held face light l in_light refl) (there_held face heavy h in_heavy on) same
+
+-- what both hold together on a face is what each holds there, together
+pub on_face_together : (face : ℕ) (light heavy : Collection) → IsCollection light → IsCollection heavy
+    → held_on face (together light heavy) ≡ together (held_on face light) (held_on face heavy)
+on_face_together face light heavy c d = where_together (λ cell. face_of cell == face) light heavy c d

@@ -10,11 +10,12 @@ use Rattle.s2ix_table_heavy.specs.Chunks.{AreChunks}
 use Rattle.s2ix_table_heavy.specs.declared.heavy_place.HeavyPlace.{HeavyPlace}
 use Rattle.s2ix_table.specs.declared.offset.Offset.{Offset}
 use Rattle.s2ix_table.specs.Faces.{has_entry_on, held_on}
-use Rattle.s2ix_table.specs.FaceSpans.{of_face, parts_of_face}
-use Rattle.s2ix_table.specs.Joined.{held_in}
-use Rattle.s2ix_table.specs.Layered.{AreLayered, IsFaceLayered, IsFaceWith, chunks_on, heavy_in}
-use Rattle.s2ix_table.specs.Layers.{together}
-use Rattle.s2ix_table.specs.Parts.{with_parts}
+use Rattle.s2ix_table.specs.FirstParts.{of_face, parts_of_face}
+use Rattle.s2ix_table_parts.specs.Neighbours.{held_in}
+use Rattle.s2ix_table.specs.Layout.{AreLayered, chunks_on, heavy_in}
+use Rattle.s2ix_table_parts.specs.Layered.{IsFaceLayered, IsFaceWith}
+use Rattle.s2ix_table_parts.specs.Layers.{together}
+use Rattle.s2ix_table_parts.specs.Parts.{with_parts}
 use Rattle.s2ix_table.specs.Whole.{AreJoined}
 use Rattle.s2ix_table.proofs.FirstParts.{face_parts, first_of_face}
 use Rattle.s2ix_table.proofs.LayersMade.{AreAllMade, AreLayersMade, layers_keep, layers_more}

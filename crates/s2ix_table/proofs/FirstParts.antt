@@ -9,13 +9,13 @@ use Rattle.s2ix_table_walk.proofs.OnFaces.{six_faces}
 use Rattle.s2ix_table_spans.specs.SpanTable.{SpanRanges}
 use Rattle.s2ix_table_spans.specs.Starts.{IsAmong, IsLastStart}
 use Rattle.s2ix_table.specs.declared.offset.Offset.{Offset}
-use Rattle.s2ix_table.specs.FaceSpans.{face_begin, no_table, table_of}
+use Rattle.s2ix_table_parts.specs.FaceSpans.{face_begin, no_table, table_of}
 use Rattle.s2ix_table.specs.Faces.{held_on}
-use Rattle.s2ix_table.specs.Joined.{held_in, AreNeighbours}
+use Rattle.s2ix_table_parts.specs.Neighbours.{held_in, AreNeighbours}
 use Rattle.s2ix_bag_pairs.specs.Collection.{Collection}
 use Rattle.s2ix_table.specs.Whole.{AreJoined}
-use Rattle.s2ix_table.proofs.Cuts.{cut, cut_is, cut_to, cut_end, cut_rises, between, starts_rise}
-use Rattle.s2ix_table.proofs.InSpans.{raw_on_face}
+use Rattle.s2ix_table_parts.proofs.Cuts.{cut, cut_is, cut_to, cut_end, cut_rises, between, starts_rise}
+use Rattle.s2ix_table_parts.proofs.InSpans.{raw_on_face}
 use Rattle.s2ix_table.proofs.OnFaces.{held_between}
 
 -- ---- the part that a face begins

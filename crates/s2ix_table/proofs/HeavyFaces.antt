@@ -13,14 +13,14 @@ use Rattle.s2ix_table_spans.specs.SpanTable.{SpanRanges}
 use Rattle.s2ix_table_heavy.specs.Chunks.{AreChunks}
 use Rattle.s2ix_table_heavy.specs.HeavyChains.{heavy_chain}
 use Rattle.s2ix_table_heavy.specs.declared.heavy_place.HeavyPlace.{HeavyPlace}
-use Rattle.s2ix_table.specs.FaceSpans.{AreOnFace, face_begin, no_table, table_of}
-use Rattle.s2ix_table.specs.Joined.{AreNeighbours}
-use Rattle.s2ix_table.specs.Layers.{AreUnder}
-use Rattle.s2ix_table.specs.Layered.{AreAllUnder, AreLayered, AreLed, IsLed, chunks_on, face_with, heavy_in}
-use Rattle.s2ix_table.proofs.Appended.{BeginFrom, both_rise, contents_front, contents_back}
-use Rattle.s2ix_table.proofs.Cuts.{cut_end, cut_rises, cut_to, neighbours_rise}
-use Rattle.s2ix_table.proofs.InSpans.{face_in_span}
-use Rattle.s2ix_table.proofs.Neighbours.{span_known}
+use Rattle.s2ix_table_parts.specs.FaceSpans.{AreOnFace, face_begin, no_table, table_of}
+use Rattle.s2ix_table_parts.specs.Neighbours.{AreNeighbours}
+use Rattle.s2ix_table_parts.specs.Layers.{AreUnder}
+use Rattle.s2ix_table.specs.Layout.{AreAllUnder, AreLayered, AreLed, IsLed, chunks_on, face_with, heavy_in}
+use Rattle.s2ix_table_parts.proofs.Appended.{BeginFrom, both_rise, contents_front, contents_back}
+use Rattle.s2ix_table_parts.proofs.Cuts.{cut_end, cut_rises, cut_to, neighbours_rise}
+use Rattle.s2ix_table_parts.proofs.InSpans.{face_in_span}
+use Rattle.s2ix_table_parts.proofs.Neighbours.{span_known}
 
 -- ---- faces from one on
 

@@ -18,9 +18,9 @@ use Rattle.s2ix_table_heavy.specs.HeavyChains.{is_beyond, heavy_chain}
 use Rattle.s2ix_table_heavy.specs.declared.heavy_place.HeavyPlace.{HeavyPlace}
 use Rattle.s2ix_table.specs.declared.part_place.FaceHeavyPlace.{FaceHeavyPlace}
 use Rattle.s2ix_table.specs.declared.part_place.FacedPlace.TheVariants.{Heavy}
-use Rattle.s2ix_table.specs.FaceSpans.{AreOnFace, table_of}
-use Rattle.s2ix_table.specs.Joined.{AreNeighbours}
-use Rattle.s2ix_table.specs.Layered.{AreLayered, chunks_on, face_with, heavy_in}
+use Rattle.s2ix_table_parts.specs.FaceSpans.{AreOnFace, table_of}
+use Rattle.s2ix_table_parts.specs.Neighbours.{AreNeighbours}
+use Rattle.s2ix_table.specs.Layout.{AreLayered, chunks_on, face_with, heavy_in}
 use Rattle.s2ix_table.specs.PartPlaces.{face_chain, faced_chain, place_of_face}
 use Rattle.s2ix_table.proofs.HeavyFaces.{over_leads}
 use Rattle.s2ix_table.proofs.HeldAt.{has_some, has_own, same_first, same_answers}

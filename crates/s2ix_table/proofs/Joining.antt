@@ -1,14 +1,19 @@
 -- Tables over neighbouring spans, of what one collection has over them, joined to one.
-use Rattle.std.proofs.Common.{◌≡◌, ◌≢◌, ◌&&◌, ◌==◌, ℕ, inl, inr, true, false, cond, List, [], ◌∷◌, refl, sym, ◌∙◌, ap₂, arith, subst}
+use Rattle.std.proofs.Common.{◌≡◌, ◌≢◌, ◌&&◌, ◌==◌, ℕ, inl, inr, true, false, cond, List, [], ◌∷◌, refl, sym, ◌∙◌, ap₂, arith, subst, ◌%◌, ◌<◌, ◌≤◌, ◌++◌, Contains}
 use Rattle.std.proofs.lemmas.Bool.{cases_Bool, cases_lt, and_parts, and_from, false≢true, cond-true, cond-false}
 use Rattle.std.proofs.lemmas.Bool.Decides.{nat_tests}
+use Rattle.std.proofs.lemmas.List.Elements.{Contains-append_cases}
 use Rattle.s2ix_bag_pairs.specs.Collection.{Collection}
 use Rattle.s2ix_bag_pairs.specs.Pair.{rank_of}
 use Rattle.s2ix_bag_pairs.specs.declared.pair.Held.{Held}
 use Rattle.s2ix_bag_pairs.proofs.Pairs.{same_held}
-use Rattle.s2ix_table_walk.specs.Table.{Range}
-use Rattle.s2ix_table_walk.proofs.Tables.{IsRangeFrom, Changes, IsTable}
-use Rattle.s2ix_table.specs.Joined.{is_same, put_first, put_before}
+use Rattle.s2ix_table_walk.specs.Table.{Range, IsTableOver}
+use Rattle.s2ix_table_walk.proofs.Tables.{IsRangeFrom, Changes, IsTable, table_rises, table_from_places, places_from_table}
+use Rattle.s2ix_table_walk.specs.Contents.{contents_at}
+use Rattle.s2ix_table.specs.Joined.{is_same, put_first, put_before, joined_ranges}
+use Rattle.s2ix_table_parts.proofs.Appended.{EndBy}
+use Rattle.s2id_core.specs.CellId.{end_of}
+use Rattle.s2ix_table_spans.specs.SpanTable.{SpanRanges}
 
 -- ---- the same contents
 
@@ -90,3 +95,49 @@ pub join_tables : (hs : Collection) (from b to : ℕ) (rs ss : List Range) → I
 join_tables hs from b to [] ss t u = subst (λ n. IsTable hs n ss to) (sym t) u
 join_tables hs from b to (r ∷ []) ss t u = join_first hs from b to r ss t u
 join_tables hs from b to (r ∷ s ∷ rs) ss t u = (t.0, changes_joined r s rs ss t.1, join_tables hs r.limit b to (s ∷ rs) ss t.2 u)
+
+-- ---- tables of what one collection has over their spans
+
+-- the ranges of what a collection has over a span
+pub record IsOverSpan (held : Collection) (span : SpanRanges) : Type 0 where
+  pub some : span.from < span.to
+  pub table : IsTableOver held span.from span.to span.ranges
+
+-- the same of spans that follow one another, from one leaf number up to another
+abbrev pub AreOverSpans : Collection → ℕ → List SpanRanges → ℕ → Type 0
+AreOverSpans held from [] to = from ≡ to
+AreOverSpans held from (t ∷ ts) to = (t.from ≡ from) × IsOverSpan held t × AreOverSpans held t.to ts to
+
+pub all_joined : (held : Collection) (from : ℕ) (tables : List SpanRanges) (to : ℕ) → AreOverSpans held from tables to
+    → IsTable held from (joined_ranges tables) to
+unfolding joined_ranges
+all_joined held from [] to are = are
+all_joined held from (t ∷ ts) to are =
+    let own = subst (λ n. IsTable held n t.ranges t.to) are.0 (table_from_places held t.from t.to t.ranges are.1.table) in
+    join_tables held from t.to to t.ranges (joined_ranges ts) own (all_joined held t.to ts to are.2)
+
+-- their joined ranges are a table over them all
+pub table_over_spans : (held : Collection) (from : ℕ) (tables : List SpanRanges) (to : ℕ) → from < to → AreOverSpans held from tables to
+    → IsTableOver held from to (joined_ranges tables)
+table_over_spans held from tables to lt are =
+    places_from_table held from to (joined_ranges tables) lt (all_joined held from tables to are)
+
+-- a table of one collection is that of another one that has the same over its span
+pub same_over : (hs ks : Collection) (from : ℕ) (ranges : List Range) (to : ℕ)
+    → ((q : ℕ) → q % 2 ≡ 1 → from ≤ q → q < to → contents_at q ks ≡ contents_at q hs) → IsTable hs from ranges to → IsTable ks from ranges to
+same_over hs ks from [] to same t = t
+same_over hs ks from (r ∷ rs) to same t =
+    let le = table_rises hs r.limit rs to t.2 in
+    let rises = t.0.rises in (
+      record { start = t.0.start; odd = t.0.odd; rises = t.0.rises; shared = λ q odd ge lt. same q odd ge (omega arith) ∙ t.0.shared q odd ge lt },
+      t.1,
+      same_over hs ks r.limit rs to (λ q odd ge lt. same q odd (omega arith) lt) t.2,
+    )
+
+pub end_later : (hs own : Collection) (from to : ℕ) → from ≤ to → EndBy hs from → ((h : Held) → Contains own h → end_of h.pair.cell ≤ to)
+    → EndBy (hs ++ own) to
+end_later hs own from to le end ends h held =
+    elim (Contains-append_cases hs own h held) [
+      | inl before ↦ (let by = end h before in omega arith)
+      | inr in_own ↦ ends h in_own
+    ]

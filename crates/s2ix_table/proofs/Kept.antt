@@ -9,12 +9,12 @@ use Rattle.s2ix_table_walk.specs.Table.{leaf_end}
 use Rattle.s2ix_table_walk.proofs.OnFaces.{face_bounds}
 use Rattle.s2ix_table_spans.specs.SpanTable.{SpanRanges}
 use Rattle.s2ix_table.specs.declared.offset.Offset.{Offset}
-use Rattle.s2ix_table.specs.FaceSpans.{AreOnFace, face_begin, parts_of_face}
-use Rattle.s2ix_table.specs.Joined.{AreNeighbours}
-use Rattle.s2ix_table.specs.Layers.{with_over}
-use Rattle.s2ix_table.specs.Layered.{chunks_on, covered, face_with, heavy_in}
+use Rattle.s2ix_table_parts.specs.FaceSpans.{AreOnFace, face_begin}
+use Rattle.s2ix_table.specs.FirstParts.{parts_of_face}
+use Rattle.s2ix_table_parts.specs.Neighbours.{AreNeighbours}
+use Rattle.s2ix_table.specs.Layout.{with_over, chunks_on, covered, face_with, heavy_in}
 use Rattle.s2ix_table.specs.Whole.{AreJoined}
-use Rattle.s2ix_table.proofs.Cuts.{back, front, neighbours_rise}
+use Rattle.s2ix_table_parts.proofs.Cuts.{back, front, neighbours_rise}
 use Rattle.s2ix_table.proofs.FirstParts.{face_cut, face_parts, first_of_face}
 use Rattle.s2ix_table.proofs.HeavyFaces.{contents_there}
 use lib.Seq.{length-take-le, set-get_or}

@@ -3,7 +3,7 @@ use Rattle.std.proofs.Common.{◌≡◌, ◌↔◌, ℕ, zero, suc, ◌+◌, ◌
 use Rattle.std.proofs.lemmas.List.Elements.{Contains-append_left, Contains-append_right}
 use Rattle.s2ix_bag_pairs.specs.declared.pair.Held.{Held}
 use Rattle.s2ix_table_walk.proofs.Over.{in_contents}
-use Rattle.s2ix_table.proofs.Layers.{cells_part_pairs, together_rises}
+use Rattle.s2ix_table_parts.proofs.Layers.{cells_part_pairs, together_rises}
 use Rattle.std.proofs.lemmas.List.{length-map}
 use Rattle.s2ix_bag_pairs.specs.Collection.{Collection, IsCollection}
 use Rattle.s2ix_table_walk.specs.Contents.{contents_at}
@@ -12,18 +12,21 @@ use Rattle.s2ix_table_spans.specs.SpanTable.{SpanRanges}
 use Rattle.s2ix_table_heavy.specs.declared.heavy_place.HeavyPlace.{HeavyPlace}
 use Rattle.std.specs.Prelude.{Option}
 use Rattle.s2ix_table.specs.declared.offset.Offset.{Offset}
-use Rattle.s2ix_table.specs.FaceSpans.{AreFirstParts, no_table, spans_of, starts_of, table_of, TablePart}
-use Rattle.s2ix_table.specs.Joined.{AreNeighbours, held_in, joined_ranges}
-use Rattle.s2ix_table.specs.Layered.{AreAllUnder, AreTold, IsLayout, cover, covered, heavy_in}
-use Rattle.s2ix_table.specs.Layers.{ShareNoCell, ShareNoPair, together, with_over}
+use Rattle.s2ix_table.specs.FirstParts.{AreFirstParts}
+use Rattle.s2ix_table_parts.specs.FaceSpans.{no_table, spans_of, starts_of, table_of, TablePart}
+use Rattle.s2ix_table_parts.specs.Neighbours.{AreNeighbours, held_in}
+use Rattle.s2ix_table.specs.Joined.{joined_ranges}
+use Rattle.s2ix_table.specs.Layout.{AreAllUnder, AreTold, IsLayout, cover, covered, heavy_in, with_over}
+use Rattle.s2ix_table_parts.specs.Layers.{ShareNoCell, ShareNoPair, together}
 use Rattle.s2ix_table.specs.Offsets.{offset_after, offsets_of}
 use Rattle.s2ix_table.specs.Whole.{AreJoined}
 use Rattle.s2ix_table.proofs.Covered.{covered_at, covered_over}
 use Rattle.s2ix_table.proofs.HeavyFaces.{all_under, heavy_rises}
-use Rattle.s2ix_table.proofs.Cuts.{cut, cut_is, cut_to}
-use Rattle.s2ix_table.proofs.Neighbours.{AreOverSpans, all_rise}
+use Rattle.s2ix_table_parts.proofs.Cuts.{cut, cut_is, cut_to}
+use Rattle.s2ix_table.proofs.Joining.{AreOverSpans}
+use Rattle.s2ix_table_parts.proofs.Neighbours.{all_rise}
 use Rattle.s2ix_table.proofs.RangesOver.{length_over}
-use Rattle.s2ix_table.proofs.Shared.{many_shared, seen_at}
+use Rattle.s2ix_table_parts.proofs.Shared.{many_shared, seen_at}
 
 pub laid_heavy : {parts : List SpanRanges} {heavy : List (List Collection)} {overs : List (Option HeavyPlace)} → IsLayout parts heavy overs
     → IsCollection (heavy_in heavy)

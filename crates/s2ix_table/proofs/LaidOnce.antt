@@ -9,12 +9,12 @@ use Rattle.s2ix_table_spans.specs.SpanTable.{SpanRanges}
 use Rattle.s2ix_table_heavy.proofs.OnePlace.{keeps_once}
 use Rattle.s2ix_table_heavy.specs.declared.heavy_place.HeavyPlace.{HeavyPlace}
 use Rattle.s2ix_table.specs.declared.part_place.FaceHeavyPlace.{FaceHeavyPlace}
-use Rattle.s2ix_table.specs.FaceSpans.{spans_of, table_of, TablePart}
-use Rattle.s2ix_table.specs.Layered.{IsLayout, chunks_on, face_with, heavy_in}
+use Rattle.s2ix_table_parts.specs.FaceSpans.{spans_of, table_of, TablePart}
+use Rattle.s2ix_table.specs.Layout.{IsLayout, chunks_on, face_with, heavy_in}
 use Rattle.s2ix_table.specs.PartPlaces.{face_chain, faced_chain, place_of_face}
 use Rattle.s2ix_table.proofs.HeavyOnce.{heavy_once, over_is, over_of, same_overs}
 use Rattle.s2ix_table.proofs.Once.{faced_once}
-use Rattle.s2ix_table.proofs.Shared.{many_shared}
+use Rattle.s2ix_table_parts.proofs.Shared.{many_shared}
 
 laid_heavy_once : {parts : List SpanRanges} {heavy : List (List Collection)} {overs : List (Option HeavyPlace)} → IsLayout parts heavy overs
     → KeepsOnce (face_chain heavy)

@@ -9,18 +9,19 @@ use Rattle.s2ix_table_walk.specs.Table.{leaf_end}
 use Rattle.s2ix_table_heavy.specs.Chunks.{AreChunks}
 use Rattle.s2ix_table_heavy.specs.declared.heavy_place.HeavyPlace.{HeavyPlace}
 use Rattle.s2ix_table.specs.Faces.{held_on}
-use Rattle.s2ix_table.specs.FaceSpans.{AreOnFace, BeginFaces, face_begin, starts_of}
-use Rattle.s2ix_table.specs.Joined.{AreNeighbours, held_in}
-use Rattle.s2ix_table.specs.Layered.{AreLed, AreOvers, IsFaceLayered, IsLayout, IsUnder, chunks_on, face_with, heavy_in}
-use Rattle.s2ix_table.specs.Layers.{ShareNoCell, together}
-use Rattle.s2ix_table.proofs.Appended.{BeginFrom}
-use Rattle.s2ix_table.proofs.Cuts.{all_end, neighbours_append, neighbours_rise}
-use Rattle.s2ix_table.proofs.FaceByFace.{apart_by_faces, heavy_there, same_by_faces}
+use Rattle.s2ix_table_parts.specs.FaceSpans.{AreOnFace, face_begin, starts_of}
+use Rattle.s2ix_table.specs.FirstParts.{BeginFaces}
+use Rattle.s2ix_table_parts.specs.Neighbours.{AreNeighbours, held_in}
+use Rattle.s2ix_table.specs.Layout.{AreLed, IsLayout, chunks_on, face_with, heavy_in}
+use Rattle.s2ix_table_parts.specs.Layered.{AreOvers, IsFaceLayered, IsUnder}
+use Rattle.s2ix_table_parts.specs.Layers.{ShareNoCell, together}
+use Rattle.s2ix_table_parts.proofs.Appended.{BeginFrom}
+use Rattle.s2ix_table_parts.proofs.Cuts.{all_end, neighbours_append, neighbours_rise}
+use Rattle.s2ix_table.proofs.FaceByFace.{apart_by_faces, heavy_there, same_by_faces, on_face_together}
 use Rattle.s2ix_table.proofs.HeavyFaces.{heavy_rises}
-use Rattle.s2ix_table.proofs.Layers.{together_rises}
-use Rattle.s2ix_table.proofs.LayersChanged.{on_face_together}
+use Rattle.s2ix_table_parts.proofs.Layers.{together_rises}
 use Rattle.s2ix_table.proofs.Making.{begins_all, begins_next}
-use Rattle.s2ix_table.proofs.Neighbours.{all_begin, all_rise}
+use Rattle.s2ix_table_parts.proofs.Neighbours.{all_begin, all_rise}
 use Rattle.s2ix_table.proofs.OnFaces.{all_kept, both_kept, held_append, none_after, none_before}
 
 -- light pairs and the chunks of a face are together what is held there

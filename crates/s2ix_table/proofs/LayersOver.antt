@@ -15,13 +15,14 @@ use Rattle.s2ix_table_walk.proofs.Lists.{deeper_from_key, contents_of_leaf, same
 use Rattle.s2ix_table_walk.proofs.Over.{IsOver, span_of, in_contents, contents_has, nested_over}
 use Rattle.s2ix_table_walk.proofs.Tables.{IsRangeFrom, Changes, IsTable, table_from_places, places_from_table, table_rises}
 use Rattle.s2ix_table_spans.specs.SpanTable.{SpanRanges, IsInSpan}
-use Rattle.s2ix_table.specs.FaceSpans.{no_table, table_of}
-use Rattle.s2ix_table.specs.Joined.{held_in, AreNeighbours}
-use Rattle.s2ix_table.specs.Layers.{together, ShareNoPair, ShareNoCell, AreUnder, with_over}
-use Rattle.s2ix_table.proofs.Appended.{contents_front, contents_back}
-use Rattle.s2ix_table.proofs.Cuts.{cut_is, cut_rises}
-use Rattle.s2ix_table.proofs.Layers.{cells_part_pairs, together_rises, in_together, heavy_in_together, light_in_together}
-use Rattle.s2ix_table.proofs.Neighbours.{all_begin}
+use Rattle.s2ix_table_parts.specs.FaceSpans.{no_table, table_of}
+use Rattle.s2ix_table_parts.specs.Neighbours.{held_in, AreNeighbours}
+use Rattle.s2ix_table_parts.specs.Layers.{together, ShareNoPair, ShareNoCell, AreUnder}
+use Rattle.s2ix_table.specs.Layout.{with_over}
+use Rattle.s2ix_table_parts.proofs.Appended.{contents_front, contents_back}
+use Rattle.s2ix_table_parts.proofs.Cuts.{cut_is, cut_rises}
+use Rattle.s2ix_table_parts.proofs.Layers.{cells_part_pairs, together_rises, in_together, heavy_in_together, light_in_together}
+use Rattle.s2ix_table_parts.proofs.Neighbours.{all_begin}
 
 -- two lists in order, of which each element of the first comes before each of the second
 ordered_append : {X : Type 0} (R : X → X → Type 0) (xs ys : List X) → AllPairs R xs → AllPairs R ys

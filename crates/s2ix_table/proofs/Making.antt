@@ -5,8 +5,8 @@ use Rattle.std.proofs.lemmas.List.{map-append}
 use Rattle.std.proofs.lemmas.List.Elements.{Contains-append_left, Contains-append_right}
 use Rattle.s2id_core.proofs.Lists.{at_head}
 use Rattle.s2ix_table_spans.specs.SpanTable.{SpanRanges}
-use Rattle.s2ix_table.specs.FaceSpans.{face_begin, starts_of}
-use Rattle.s2ix_table.specs.Joined.{AreNeighbours}
+use Rattle.s2ix_table_parts.specs.FaceSpans.{face_begin, starts_of}
+use Rattle.s2ix_table_parts.specs.Neighbours.{AreNeighbours}
 
 pub begins_next : (face : ℕ) (more : List SpanRanges) → AreNeighbours (face_begin face) more (face_begin (face + 1))
     → Contains (starts_of more) (face_begin face)

@@ -8,9 +8,9 @@ use Rattle.s2ix_bag_pairs.specs.Collection.{Collection}
 use Rattle.s2ix_table_walk.specs.Table.{Range, range_at, leaf_end}
 use Rattle.s2ix_table_spans.specs.SpanTable.{SpanRanges}
 use Rattle.s2ix_table.specs.declared.offset.Offset.{Offset}
-use Rattle.s2ix_table.specs.FaceSpans.{no_table, table_of}
+use Rattle.s2ix_table_parts.specs.FaceSpans.{no_table, table_of}
 use Rattle.s2ix_table.specs.Offsets.{is_joined, last_start, moved, offset_after, offset_at, offsets_from, offsets_of, AreMovable, AreOffsetsFrom}
-use Rattle.s2ix_table.proofs.Neighbours.{AreOverSpans}
+use Rattle.s2ix_table.proofs.Joining.{AreOverSpans}
 use Rattle.s2ix_table.proofs.Offsets.{length_offsets, offset_next}
 use Rattle.s2ix_table.proofs.OneFace.{first_alone}
 use Rattle.s2ix_table.proofs.Reading.{first_offset, no_offset}

@@ -8,8 +8,7 @@ use Rattle.s2ix_table_spans.specs.SpanTable.{SpanRanges}
 use Rattle.s2ix_table.specs.declared.offset.Offset.{Offset}
 use Rattle.s2ix_table.specs.Joined.{is_same, put_before, joined_ranges}
 use Rattle.s2ix_table.specs.Offsets.{is_joined, last_start, offset_after, offsets_from, offsets_of, places_of}
-use Rattle.s2ix_table.proofs.Joining.{same_is}
-use Rattle.s2ix_table.proofs.Neighbours.{AreOverSpans, table_over_spans}
+use Rattle.s2ix_table.proofs.Joining.{same_is, AreOverSpans, table_over_spans}
 use Rattle.s2ix_table.proofs.JoinedPlaces.{IsOne, BeginAlike, joined_one, joined_two, joined_nil, joined_first}
 use Rattle.s2ix_table.proofs.Placing.{IsOffset, IsPart, IsCut, last_part, two_part, two_next, one_part, one_next, one_start}
 

@@ -9,12 +9,12 @@ use Rattle.s2ix_bag_pairs.specs.Collection.{Collection}
 use Rattle.s2ix_table_walk.proofs.Over.{span_of}
 use Rattle.s2ix_table_spans.specs.SpanTable.{SpanRanges}
 use Rattle.s2ix_table.specs.Faces.{held_on}
-use Rattle.s2ix_table.specs.FaceSpans.{face_begin}
-use Rattle.s2ix_table.specs.Joined.{held_in, AreNeighbours}
-use Rattle.s2ix_table.proofs.Appended.{EndBy, BeginFrom}
-use Rattle.s2ix_table.proofs.Cuts.{cut, front, back, between, all_end}
-use Rattle.s2ix_table.proofs.InSpans.{cell_on_face}
-use Rattle.s2ix_table.proofs.Neighbours.{all_begin}
+use Rattle.s2ix_table_parts.specs.FaceSpans.{face_begin}
+use Rattle.s2ix_table_parts.specs.Neighbours.{held_in, AreNeighbours}
+use Rattle.s2ix_table_parts.proofs.Appended.{EndBy, BeginFrom}
+use Rattle.s2ix_table_parts.proofs.Cuts.{cut, front, back, between, all_end}
+use Rattle.s2ix_table_parts.proofs.InSpans.{cell_on_face}
+use Rattle.s2ix_table_parts.proofs.Neighbours.{all_begin}
 use Rattle.s2ix_table.proofs.Unchanged.{on_face, off_face}
 
 -- ---- pairs within a face's span, and outside of it

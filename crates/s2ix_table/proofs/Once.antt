@@ -20,16 +20,16 @@ use Rattle.s2ix_table.specs.declared.part_place.FaceHeavyPlace.{FaceHeavyPlace}
 use Rattle.s2ix_table.specs.declared.part_place.FacedPlace.{FacedPlace}
 use Rattle.s2ix_table.specs.declared.part_place.FacedPlace.TheVariants.{Light, Heavy}
 use Rattle.s2ix_table.specs.declared.part_place.PartPlace.{PartPlace}
-use Rattle.s2ix_table.specs.FaceSpans.{no_table, table_of}
-use Rattle.s2ix_table.specs.Joined.{AreNeighbours, held_in}
-use Rattle.s2ix_table.specs.Layered.{AreLayered, chunks_on, heavy_in}
-use Rattle.s2ix_table.specs.Layers.{ShareNoCell}
+use Rattle.s2ix_table_parts.specs.FaceSpans.{no_table, table_of}
+use Rattle.s2ix_table_parts.specs.Neighbours.{AreNeighbours, held_in}
+use Rattle.s2ix_table.specs.Layout.{AreLayered, chunks_on, heavy_in}
+use Rattle.s2ix_table_parts.specs.Layers.{ShareNoCell}
 use Rattle.s2ix_table.specs.PartPlaces.{chain_from, face_chain, faced_chain, with_behind}
 use Rattle.s2ix_table.proofs.Behind.{behind_some, behind_length}
-use Rattle.s2ix_table.proofs.Cuts.{same_part}
+use Rattle.s2ix_table_parts.proofs.Cuts.{same_part}
 use Rattle.s2ix_table.proofs.HeavyOnce.{heavy_once, on_heavy_chain, on_some_face, over_of, over_of_leads}
 use Rattle.s2ix_table.proofs.HeldAt.{has_own, has_some, has_start, same_first}
-use Rattle.s2ix_table.proofs.Neighbours.{span_known}
+use Rattle.s2ix_table_parts.proofs.Neighbours.{span_known}
 use Rattle.s2ix_table.proofs.Reading.{part_of_place}
 
 place_with : ℕ → ℕ → PartPlace

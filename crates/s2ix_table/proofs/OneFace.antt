@@ -4,7 +4,7 @@ use Rattle.std.proofs.lemmas.List.{length-append, length-drop, length-take-le}
 use Rattle.s2ix_table_walk.specs.Table.{leaf_end}
 use Rattle.s2ix_table_spans.specs.SpanTable.{SpanRanges}
 use Rattle.s2ix_table.specs.declared.offset.Offset.{Offset}
-use Rattle.s2ix_table.specs.Joined.{AreNeighbours}
+use Rattle.s2ix_table_parts.specs.Neighbours.{AreNeighbours}
 use Rattle.s2ix_table.specs.Offsets.{offset_after, offsets_from}
 
 -- ---- some elements give way to others

@@ -4,7 +4,7 @@ use Rattle.std.proofs.lemmas.Bool.{cases_eq}
 use Rattle.s2ix_table_walk.specs.Table.{Range, range_at}
 use Rattle.s2ix_table.specs.declared.offset.Offset.{Offset}
 use Rattle.s2ix_bag_pairs.specs.Collection.{Collection}
-use Rattle.s2ix_table.specs.Layers.{with_over}
+use Rattle.s2ix_table.specs.Layout.{with_over}
 use Rattle.s2ix_table.proofs.JoinedPlaces.{IsOne, IsTwo}
 use Rattle.s2ix_table.proofs.RangesOver.{length_over, limit_over, start_over}
 

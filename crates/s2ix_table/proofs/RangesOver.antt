@@ -2,7 +2,7 @@
 use Rattle.std.proofs.Common.{◌≡◌, ℕ, zero, suc, ◌<◌, List, [], ◌∷◌, ◌++◌, length, refl, ap, arith}
 use Rattle.s2ix_bag_pairs.specs.Collection.{Collection}
 use Rattle.s2ix_table_walk.specs.Table.{Range, range_at}
-use Rattle.s2ix_table.specs.Layers.{with_over}
+use Rattle.s2ix_table.specs.Layout.{with_over}
 
 pub length_over : (over : Collection) (rs : List Range) → length (with_over over rs) ≡ length rs
 length_over over [] = refl

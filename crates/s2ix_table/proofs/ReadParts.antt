@@ -4,9 +4,9 @@ use Rattle.s2ix_bag_lists.specs.Faces.{all_of}
 use Rattle.s2ix_bag_pairs.specs.Collection.{Collection, IsCollection}
 use Rattle.s2ix_table_spans.specs.SpanTable.{IsInSpan}
 use Rattle.s2ix_table.specs.Faces.{held_on}
-use Rattle.s2ix_table.specs.FaceSpans.{face_begin}
+use Rattle.s2ix_table_parts.specs.FaceSpans.{face_begin}
 use Rattle.s2ix_table.proofs.AllFaces.{held_few, held_rises, lie_on}
-use Rattle.s2ix_table.proofs.InSpans.{face_in_span}
+use Rattle.s2ix_table_parts.proofs.InSpans.{face_in_span}
 
 -- lists hold what lies on a face
 pub record AreOfFace (face : ℕ) (lists : List Collection) : Type 0 where

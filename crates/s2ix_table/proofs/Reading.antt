@@ -14,13 +14,14 @@ use Rattle.s2ix_table_spans.specs.Starts.{IsLastStart}
 use Rattle.s2ix_table_spans.proofs.Chains.{chain_none}
 use Rattle.s2ix_table_spans.proofs.Few.{few_ranges}
 use Rattle.s2ix_table.specs.declared.offset.Offset.{Offset}
-use Rattle.s2ix_table.specs.FaceSpans.{no_table, table_of}
-use Rattle.s2ix_table.specs.Joined.{held_in, joined_ranges}
-use Rattle.s2ix_table.specs.Layers.{together}
-use Rattle.s2ix_table.specs.Layered.{cover, covered}
+use Rattle.s2ix_table_parts.specs.FaceSpans.{no_table, table_of}
+use Rattle.s2ix_table_parts.specs.Neighbours.{held_in}
+use Rattle.s2ix_table.specs.Joined.{joined_ranges}
+use Rattle.s2ix_table_parts.specs.Layers.{together}
+use Rattle.s2ix_table.specs.Layout.{cover, covered}
 use Rattle.s2ix_table.specs.Offsets.{offsets_of, places_of, place_on, HasOwn, HasRange}
 use Rattle.s2ix_table.specs.Whole.{AreJoined}
-use Rattle.s2ix_table.proofs.Neighbours.{span_known}
+use Rattle.s2ix_table_parts.proofs.Neighbours.{span_known}
 use Rattle.s2ix_table.proofs.Offsets.{high_of, offsets_fit, length_offsets}
 use Rattle.s2ix_table.proofs.Placing.{IsPart, IsSpread, spread}
 use Rattle.s2ix_table.proofs.Covered.{covered_at, covered_over, covered_table}

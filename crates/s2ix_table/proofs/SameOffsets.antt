@@ -10,15 +10,16 @@ use Rattle.s2ix_table_heavy.specs.declared.heavy_place.HeavyPlace.{HeavyPlace}
 use Rattle.s2ix_table.specs.declared.blocks.Blocks.{Blocks}
 use Rattle.s2ix_table.specs.declared.offset.Offset.{Offset}
 use Rattle.s2ix_table.specs.Blocks.{AreBlocks}
-use Rattle.s2ix_table.specs.FaceSpans.{no_table, table_of}
-use Rattle.s2ix_table.specs.Joined.{held_in, joined_ranges}
-use Rattle.s2ix_table.specs.Layered.{AreLayered, IsLayout, chunks_on, cover, covered, heavy_in}
-use Rattle.s2ix_table.specs.Layers.{together, with_over}
+use Rattle.s2ix_table_parts.specs.FaceSpans.{no_table, table_of}
+use Rattle.s2ix_table_parts.specs.Neighbours.{held_in}
+use Rattle.s2ix_table.specs.Joined.{joined_ranges}
+use Rattle.s2ix_table.specs.Layout.{AreLayered, IsLayout, chunks_on, cover, covered, heavy_in, with_over}
+use Rattle.s2ix_table_parts.specs.Layers.{together}
 use Rattle.s2ix_table.specs.Offsets.{is_joined, offset_after, offset_at, offsets_from, offsets_of}
 use Rattle.s2ix_table.specs.Whole.{AreJoined}
 use Rattle.s2ix_table.proofs.Laid.{laid_joined, laid_over, many_covered, over_shares_none, parts_meet, same_count}
 use Rattle.s2ix_table.proofs.LaidOnce.{laid_same_over}
-use Rattle.s2ix_table.proofs.Neighbours.{span_known}
+use Rattle.s2ix_table_parts.proofs.Neighbours.{span_known}
 use Rattle.s2ix_table.proofs.OneFace.{some_parts}
 use Rattle.s2ix_table.proofs.RangesOver.{length_over, start_over}
 use Rattle.s2ix_table.proofs.Reading.{first_offset}

@@ -10,7 +10,8 @@ use Rattle.s2ix_table_walk.specs.Table.{Range, range_at}
 use Rattle.s2ix_table_walk.proofs.Over.{in_contents, span_of}
 use Rattle.s2ix_table_spans.specs.SpanTable.{SpanRanges, IsSpanTable}
 use Rattle.s2ix_table.specs.Joined.{is_same}
-use Rattle.s2ix_table.specs.Layers.{ShareNoPair, with_over}
+use Rattle.s2ix_table_parts.specs.Layers.{ShareNoPair}
+use Rattle.s2ix_table.specs.Layout.{with_over}
 use Rattle.s2ix_table.specs.Offsets.{is_joined}
 use Rattle.s2ix_table.proofs.Joining.{is_same_as, same_is}
 use Rattle.s2ix_table.proofs.RangesOver.{contents_over, length_over}

@@ -9,9 +9,10 @@ use Rattle.s2ix_table_heavy.specs.declared.heavy_place.HeavyPlace.{HeavyPlace}
 use Rattle.s2ix_table.specs.declared.blocks.Blocks.{Blocks}
 use Rattle.s2ix_table.specs.declared.offset.Offset.{Offset}
 use Rattle.s2ix_table.specs.Blocks.{AreBlocks}
-use Rattle.s2ix_table.specs.Joined.{held_in, joined_ranges}
-use Rattle.s2ix_table.specs.Layered.{AreLayered, IsLayout, covered, heavy_in}
-use Rattle.s2ix_table.specs.Layers.{together}
+use Rattle.s2ix_table_parts.specs.Neighbours.{held_in}
+use Rattle.s2ix_table.specs.Joined.{joined_ranges}
+use Rattle.s2ix_table.specs.Layout.{AreLayered, IsLayout, covered, heavy_in}
+use Rattle.s2ix_table_parts.specs.Layers.{together}
 use Rattle.s2ix_table.specs.Offsets.{places_of}
 use Rattle.s2ix_table.specs.PartPlaces.{faced_chain}
 use Rattle.s2ix_table.specs.Whole.{AreJoined}

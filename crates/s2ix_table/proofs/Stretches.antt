@@ -8,12 +8,13 @@ use Rattle.s2ix_table_walk.specs.LeafWindows.{HaveLeaves}
 use Rattle.s2ix_table_walk.specs.Stretches.{IsStretch}
 use Rattle.s2ix_table_spans.specs.SpanTable.{SpanRanges}
 use Rattle.s2ix_table.specs.declared.offset.Offset.{Offset}
-use Rattle.s2ix_table.specs.FaceSpans.{no_table, table_of}
-use Rattle.s2ix_table.specs.Joined.{held_in, joined_ranges}
-use Rattle.s2ix_table.specs.Layers.{together}
-use Rattle.s2ix_table.specs.Layered.{covered}
+use Rattle.s2ix_table_parts.specs.FaceSpans.{no_table, table_of}
+use Rattle.s2ix_table_parts.specs.Neighbours.{held_in}
+use Rattle.s2ix_table.specs.Joined.{joined_ranges}
+use Rattle.s2ix_table_parts.specs.Layers.{together}
+use Rattle.s2ix_table.specs.Layout.{covered}
 use Rattle.s2ix_table.specs.Whole.{AreJoined}
-use Rattle.s2ix_table.proofs.Cuts.{cut_is}
+use Rattle.s2ix_table_parts.proofs.Cuts.{cut_is}
 use Rattle.s2ix_table.proofs.FirstParts.{start_of}
 use Rattle.s2ix_table.proofs.Reading.{no_offset, all_table, placed, places_rise, known}
 use Rattle.s2ix_table.proofs.Placing.{IsSpread}

@@ -12,19 +12,20 @@ use Rattle.s2ix_table_heavy.specs.Chunks.{AreChunks}
 use Rattle.s2ix_table_heavy.specs.declared.heavy_place.HeavyPlace.{HeavyPlace}
 use Rattle.s2ix_table.specs.declared.offset.Offset.{Offset}
 use Rattle.s2ix_table.specs.Faces.{held_on}
-use Rattle.s2ix_table.specs.FaceSpans.{face_begin, of_face}
-use Rattle.s2ix_table.specs.Joined.{held_in}
-use Rattle.s2ix_table.specs.Layered.{AreLayered, AreLed, IsFaceLayered, IsFaceWith, chunks_on, heavy_in}
-use Rattle.s2ix_table.specs.Layers.{together}
-use Rattle.s2ix_table.specs.Parts.{with_parts}
+use Rattle.s2ix_table_parts.specs.FaceSpans.{face_begin}
+use Rattle.s2ix_table.specs.FirstParts.{of_face}
+use Rattle.s2ix_table_parts.specs.Neighbours.{held_in}
+use Rattle.s2ix_table.specs.Layout.{AreLayered, AreLed, chunks_on, heavy_in}
+use Rattle.s2ix_table_parts.specs.Layered.{IsFaceLayered, IsFaceWith}
+use Rattle.s2ix_table_parts.specs.Layers.{together}
+use Rattle.s2ix_table_parts.specs.Parts.{with_parts}
 use Rattle.s2ix_table.specs.Whole.{AreJoined}
-use Rattle.s2ix_table.proofs.Cuts.{cut_after}
-use Rattle.s2ix_table.proofs.FaceByFace.{heavy_there, held_there}
+use Rattle.s2ix_table_parts.proofs.Cuts.{cut_after}
+use Rattle.s2ix_table.proofs.FaceByFace.{heavy_there, held_there, on_face_together}
 use Rattle.s2ix_table.proofs.FirstParts.{face_cut, face_parts, first_of_face, length_starts}
 use Rattle.s2ix_table.proofs.HeavyFaces.{many_led}
-use Rattle.s2ix_table.proofs.LayersChanged.{on_face_together}
 use Rattle.s2ix_table.proofs.LayersMade.{AreAllMade, AreLayersMade, all_layers, layers_more, no_layers, overs_on_face}
-use Rattle.s2ix_table.proofs.Neighbours.{all_rise}
+use Rattle.s2ix_table_parts.proofs.Neighbours.{all_rise}
 
 -- ---- the faces of a table
 

@@ -6,10 +6,11 @@ use Rattle.s2ix_table_walk.specs.Table.{leaf_end}
 use Rattle.s2ix_table_spans.specs.SpanTable.{SpanRanges}
 use Rattle.s2ix_table_spans.proofs.Few.{few_ranges}
 use Rattle.s2ix_table.specs.declared.offset.Offset.{Offset}
-use Rattle.s2ix_table.specs.FaceSpans.{no_table, table_of, starts_of}
-use Rattle.s2ix_table.specs.Joined.{joined_ranges, AreNeighbours}
+use Rattle.s2ix_table_parts.specs.FaceSpans.{no_table, table_of, starts_of}
+use Rattle.s2ix_table.specs.Joined.{joined_ranges}
+use Rattle.s2ix_table_parts.specs.Neighbours.{AreNeighbours}
 use Rattle.s2ix_table.specs.Offsets.{offset_at, offsets_of, places_of}
-use Rattle.s2ix_table.proofs.Neighbours.{AreOverSpans, table_over_spans}
+use Rattle.s2ix_table.proofs.Joining.{AreOverSpans, table_over_spans}
 use Rattle.s2ix_table.proofs.Offsets.{high_of, offsets_fit, length_offsets}
 use Rattle.s2ix_table.proofs.Reading.{first_offset, no_offset}
 

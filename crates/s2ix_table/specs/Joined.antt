@@ -1,9 +1,9 @@
--- Tables over neighbouring spans of leaves, put together.
-use Rattle.std.specs.Prelude.{◌≡◌, ◌==◌, ◌&&◌, if◌then◌else◌, ℕ, Bool, true, false, List, [], ◌∷◌, flat_map}
+-- The ranges of tables over neighbouring spans of leaves, put together.
+use Rattle.std.specs.Prelude.{◌==◌, ◌&&◌, if◌then◌else◌, Bool, true, false, List, [], ◌∷◌}
 use Rattle.s2ix_bag_pairs.specs.Collection.{Collection}
 use Rattle.s2ix_bag_pairs.specs.Pair.{rank_of}
 use Rattle.s2ix_table_walk.specs.Table.{Range}
-use Rattle.s2ix_table_spans.specs.SpanTable.{SpanRanges, IsSpanTable}
+use Rattle.s2ix_table_spans.specs.SpanTable.{SpanRanges}
 
 -- whether the same pairs are held, with the same counts
 abbrev pub is_same : Collection → Collection → Bool
@@ -24,16 +24,7 @@ put_before [] ss = ss
 put_before (r ∷ []) ss = put_first r ss
 put_before (r ∷ t ∷ rs) ss = r ∷ put_before (t ∷ rs) ss
 
--- what some tables hold, one after the other
-abbrev pub held_in : List SpanRanges → Collection
-held_in tables = flat_map (λ t. t.held) tables
-
 -- the ranges of some tables, one after the other
 unfoldable pub joined_ranges : List SpanRanges → List Range
 joined_ranges [] = []
 joined_ranges (t ∷ ts) = put_before t.ranges (joined_ranges ts)
-
--- tables over spans that follow one another, from one leaf number up to another
-abbrev pub AreNeighbours : ℕ → List SpanRanges → ℕ → Type 0
-AreNeighbours from [] to = from ≡ to
-AreNeighbours from (t ∷ ts) to = (t.from ≡ from) × IsSpanTable t × AreNeighbours t.to ts to

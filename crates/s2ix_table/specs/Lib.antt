@@ -14,14 +14,10 @@ pub mod Faces
 pub mod ReadingLaws
 pub mod Joined
 pub mod Offsets
-pub mod FaceSpans
 pub mod PartPlaces
 pub mod Whole
 pub mod OneProof
-pub mod Parts
 pub mod AllLeaves
 pub mod Blocks
-pub mod Layers
-pub mod Layered
-pub mod Split
-pub mod Made
+pub mod FirstParts
+pub mod Layout

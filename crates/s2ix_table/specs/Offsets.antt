@@ -3,7 +3,7 @@ use Rattle.std.specs.Prelude.{◌≡◌, ℕ, ◌+◌, ◌-◌, ◌<◌, ◌≤�
 use Rattle.s2ix_table_walk.specs.Table.{Range, range_at}
 use Rattle.s2ix_table_spans.specs.SpanTable.{SpanRanges}
 use Rattle.s2ix_table_spans.specs.Starts.{IsLastStart}
-use Rattle.s2ix_table.specs.FaceSpans.{table_of}
+use Rattle.s2ix_table_parts.specs.FaceSpans.{table_of}
 use Rattle.s2ix_table.specs.Joined.{is_same}
 use Rattle.s2ix_table.specs.declared.offset.Offset.{Offset}
 

@@ -16,8 +16,8 @@ use Rattle.s2ix_table.specs.declared.part_place.FacedPlace.{FacedPlace}
 use Rattle.s2ix_table.specs.declared.part_place.FacedPlace.TheVariants.{Light, Heavy}
 use Rattle.s2ix_table.specs.declared.part_place.PartPlace.{PartPlace}
 use Rattle.s2ix_table.specs.declared.offset.Offset.{Offset}
-use Rattle.s2ix_table.specs.Joined.{AreNeighbours}
-use Rattle.s2ix_table.specs.Layered.{AreAllUnder, AreLayered, AreLed}
+use Rattle.s2ix_table_parts.specs.Neighbours.{AreNeighbours}
+use Rattle.s2ix_table.specs.Layout.{AreAllUnder, AreLayered, AreLed}
 use Rattle.s2ix_table.specs.PartPlaces.{faced_chain}
 use Rattle.s2ix_table.specs.Whole.{AreJoined}
 

@@ -10,8 +10,8 @@ use Rattle.s2ix_table.specs.declared.part_place.FaceHeavyPlace.{FaceHeavyPlace}
 use Rattle.s2ix_table.specs.declared.part_place.FacedPlace.{FacedPlace}
 use Rattle.s2ix_table.specs.declared.part_place.FacedPlace.TheVariants.{Light, Heavy}
 use Rattle.s2ix_table.specs.declared.part_place.PartPlace.{PartPlace}
-use Rattle.s2ix_table.specs.FaceSpans.{table_of}
-use Rattle.s2ix_table.specs.Layered.{chunks_on, heavy_in}
+use Rattle.s2ix_table_parts.specs.FaceSpans.{table_of}
+use Rattle.s2ix_table.specs.Layout.{chunks_on, heavy_in}
 
 -- the chain from a place of one of some tables outwards
 abbrev pub chain_from : List SpanRanges → PartPlace → Collection

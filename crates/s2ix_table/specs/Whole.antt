@@ -4,10 +4,12 @@ use Rattle.s2ix_bag_pairs.specs.Collection.{Collection, IsCollection}
 use Rattle.s2ix_table_walk.specs.Table.{leaf_end}
 use Rattle.s2ix_table_spans.specs.SpanTable.{SpanRanges}
 use Rattle.s2ix_table.specs.declared.offset.Offset.{Offset}
-use Rattle.s2ix_table.specs.FaceSpans.{starts_of, AreFirstParts}
-use Rattle.s2ix_table.specs.Joined.{held_in, joined_ranges, AreNeighbours}
-use Rattle.s2ix_table.specs.Layers.{together, ShareNoCell}
-use Rattle.s2ix_table.specs.Layered.{AreAllUnder, covered}
+use Rattle.s2ix_table_parts.specs.FaceSpans.{starts_of}
+use Rattle.s2ix_table.specs.FirstParts.{AreFirstParts}
+use Rattle.s2ix_table_parts.specs.Neighbours.{held_in, AreNeighbours}
+use Rattle.s2ix_table.specs.Joined.{joined_ranges}
+use Rattle.s2ix_table_parts.specs.Layers.{together, ShareNoCell}
+use Rattle.s2ix_table.specs.Layout.{AreAllUnder, covered}
 use Rattle.s2ix_table.specs.Offsets.{offsets_of}
 
 -- neighbouring parts from the first leaf of face 0 to the last of face 5, under heavy pairs; where the parts begin, their offsets, the

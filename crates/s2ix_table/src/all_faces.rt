@@ -1,15 +1,13 @@
 //! The six faces of a table, made one after the other.
 ghost use Rattle.std.specs.Prelude.{◌≡◌, ◌++◌, ◌<◌, ◌≤◌, [], IfOk, OnOk, drop, length, set, take};
-ghost use Rattle.s2ix_table.specs.FaceSpans.{BeginFaces, overs_of, spans_of};
-ghost use Rattle.s2ix_table.specs.Layered.{IsLayout, pairs_of};
+ghost use Rattle.s2ix_table.specs.FirstParts.{BeginFaces};
+ghost use Rattle.s2ix_table_parts.specs.FaceSpans.{overs_of, spans_of};
+ghost use Rattle.s2ix_table.specs.Layout.{IsLayout, pairs_of};
 
-use crate::face_after::all_anew;
-use crate::heavy_pairs::HeavyPairs;
-use crate::new_parts::NewFace;
 use crate::pair_reader::PairReader;
-use crate::part::Part;
 use crate::read_faces::read_list;
 use s2id_core::{FACES, OutOfMemory};
+use s2ix_table_parts::{HeavyPairs, NewFace, Part, all_anew};
 use std::alloc::Global;
 
 // The parts of all faces, and the heavy pairs of each face.

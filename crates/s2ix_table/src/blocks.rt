@@ -3,10 +3,10 @@ ghost use Rattle.std.specs.Prelude.{◌≡◌, ◌+◌, ◌*◌, ◌^◌, ◌<�
 ghost use Rattle.s2ix_table_spans.specs.Starts.{IsAmong, IsLastStart};
 ghost use Rattle.s2ix_table_walk.specs.Table.{leaf_end};
 ghost use Rattle.s2ix_table.specs.AllLeaves.{HaveAllLeaves};
-ghost use Rattle.s2ix_table.specs.FaceSpans.{spans_of, starts_of};
+ghost use Rattle.s2ix_table_parts.specs.FaceSpans.{spans_of, starts_of};
 
-use crate::part::Part;
 use s2id_core::{LEAF_END, OutOfMemory};
+use s2ix_table_parts::Part;
 use s2ix_table_walk::Window;
 use std::alloc::Global;
 

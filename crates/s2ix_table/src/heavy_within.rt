@@ -1,48 +1,22 @@
 //! A change within one chunk of the heavy pairs of a face: the parts stay, and so does all that is kept of them.
-ghost use Rattle.std.specs.Prelude.{◌≡◌, ◌≢◌, ◌<◌, ◌≤◌, ℕ, [], OnErr, OnOk, false, length, set};
-ghost use Rattle.s2ix_bag_pairs.specs.Change.{IsChangeList, changed};
+ghost use Rattle.std.specs.Prelude.{◌≡◌, ◌≢◌, ◌<◌, ◌≤◌, ℕ, OnErr, OnOk, false, length, set};
+ghost use Rattle.s2ix_bag_pairs.specs.Change.{changed};
 ghost use Rattle.s2ix_bag_pairs.specs.Collection.{IsCollection};
 ghost use Rattle.s2ix_table_heavy.specs.ChangedChunk.{FitsChunk};
 ghost use Rattle.s2ix_table.specs.Faces.{has_entry_on};
-ghost use Rattle.s2ix_table.specs.FaceSpans.{overs_of, spans_of};
-ghost use Rattle.s2ix_table.specs.Layered.{IsFaceLayered, IsFaceWith, IsLayout, chunks_on, face_pairs, pairs_of};
-ghost use Rattle.s2ix_table.specs.Made.{IfOkSome};
+ghost use Rattle.s2ix_table_parts.specs.FaceSpans.{overs_of, spans_of};
+ghost use Rattle.s2ix_table.specs.Layout.{IsLayout, chunks_on, pairs_of};
+ghost use Rattle.s2ix_table_parts.specs.Made.{IfOkSome};
 
 use crate::entries_on::entries_on;
-use crate::face_after::Face;
 use crate::faced_table::FacedTable;
-use crate::heavy_pairs::{all_are_chunks, put_chunk_on};
+use crate::heavy_faces::{all_are_chunks, put_chunk_on};
 use s2id_core::{FACES, OutOfMemory};
 use s2ix_bag_changes::Change;
 use s2ix_bag_lists::HeldParts;
-use s2ix_bag_pairs::Entry;
 use s2ix_table_heavy::ChangedChunk;
 use s2ix_table_queries::RangeTable;
 use std::alloc::Global;
-
-impl Face<'_> {
-    // What a change makes of the chunk into which all its entries fall, as `HeavyTable::changed_chunk` does it. Over each part lie the heavy
-    // pairs of the same chunks then, so all parts stay, with the places that lead to these pairs.
-    fn chunk_after(
-        self,
-        alloc: Global,
-        entries: &[Entry],
-        max_part_len: usize,
-    ) -> Result<Option<ChangedChunk>, OutOfMemory>
-        requires layered { IsFaceLayered self.face self.heavy.now (spans_of self.parts.now) (overs_of self.parts.now) }
-        requires entries_rise { IsChangeList entries.now }
-        requires within_limit { length (changed (face_pairs self.parts.now self.heavy.now) entries.now) ≤ 1000000 }
-        ensures fits { IfOkSome result (λ chunk. FitsChunk self.entry.heavy.now chunk.number chunk.held) }
-        ensures with { IfOkSome result (λ chunk. IsFaceWith self.entry.face
-            (changed (face_pairs self.entry.parts.now self.entry.heavy.now) entries.now)
-            (spans_of self.entry.parts.now) (overs_of self.entry.parts.now) 0 0 [] [] (set self.entry.heavy.now chunk.number chunk.held)) }
-    {
-        let Some(chunk) = self.heavy.changed_chunk(alloc, entries, max_part_len)? else {
-            return Ok(None);
-        };
-        Ok(Some(chunk))
-    }
-}
 
 impl FacedTable {
     // What a change with entries on one face only makes of the chunk there into which they all fall, if there is one.

@@ -1,15 +1,14 @@
 //! The layout of a table: its parts, the heavy pairs over them, and how the ranges of the parts are counted.
 ghost use Rattle.std.specs.Prelude.{◌≡◌, ◌↔◌, ◌-◌, IsTrue, ◌<◌, ◌≤◌, IfOk, length, max, take};
 ghost use Rattle.s2ix_table_walk.specs.Contents.{contents_at};
-ghost use Rattle.s2ix_table.specs.FaceSpans.{overs_of, spans_of, table_of};
-ghost use Rattle.s2ix_table.specs.Layered.{IsLayout, covered, heavy_in, ranges_of};
+ghost use Rattle.s2ix_table_parts.specs.FaceSpans.{overs_of, spans_of, table_of};
+ghost use Rattle.s2ix_table.specs.Layout.{IsLayout, covered, heavy_in, ranges_of};
 ghost use Rattle.s2ix_table.specs.Offsets.{AreOffsetsFrom, offsets_of};
 
-use crate::heavy_pairs::HeavyPairs;
 use crate::offset::{Offset, move_from};
-use crate::part::Part;
 use crate::part_place::FaceHeavyPlace;
 use s2id_core::{FACES, OutOfMemory};
+use s2ix_table_parts::{HeavyPairs, Part};
 use std::alloc::Global;
 
 // So many offsets, which are still to be counted. `OutOfMemory` if a growth is refused.

@@ -8,7 +8,7 @@ ghost use Rattle.s2ix_table_spans.specs.SpanTable.{IsSpanTable};
 ghost use Rattle.s2ix_table_spans.specs.Starts.{IsAmong, IsLastStart};
 ghost use Rattle.s2ix_table_walk.specs.Table.{IsFound, range_at};
 ghost use Rattle.s2ix_table_queries.specs.LeafContents.{AreContents};
-ghost use Rattle.s2ix_table.specs.FaceSpans.{spans_of, table_of};
+ghost use Rattle.s2ix_table_parts.specs.FaceSpans.{spans_of, table_of};
 ghost use Rattle.s2ix_table.specs.Offsets.{HasRange};
 
 use crate::faced_table::FacedTable;

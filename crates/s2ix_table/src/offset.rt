@@ -3,8 +3,7 @@ ghost use Rattle.std.specs.Prelude.{◌≡◌, ◌+◌, ◌<◌, ◌≤◌, ◌+
 ghost use Rattle.s2ix_bag_pairs.specs.Collection.{Collection};
 ghost use Rattle.s2ix_table_spans.specs.SpanTable.{IsSpanTable};
 ghost use Rattle.s2ix_table_spans.specs.Starts.{IsLastStart};
-ghost use Rattle.s2ix_table.specs.Layers.{with_over};
-ghost use Rattle.s2ix_table.specs.Layered.{AreTold};
+ghost use Rattle.s2ix_table.specs.Layout.{with_over, AreTold};
 ghost use Rattle.s2ix_table.specs.Offsets.{AreMovable, is_joined, moved, offset_after, offset_at, places_of};
 
 use s2ix_table_spans::SpanTable;

@@ -28,7 +28,7 @@ pub struct FaceHeavyPlace {
 }
 
 impl FaceHeavyPlace {
-    ghost use Rattle.s2ix_table.specs.Layered.{face_with};
+    ghost use Rattle.s2ix_table.specs.Layout.{face_with};
     ghost use Rattle.s2ix_table.specs.PartPlaces.{place_of_face};
 
     // A place among the heavy pairs of the face on which a leaf number lies.

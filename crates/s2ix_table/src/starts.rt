@@ -2,7 +2,7 @@
 ghost use Rattle.std.specs.Prelude.{◌≡◌, ◌<◌, ℕ, length, slice_index_or, AllPairs, Contains};
 ghost use Rattle.s2ix_table_spans.specs.Starts.{IsAmong, IsLastStart};
 ghost use Rattle.s2ix_table_walk.specs.FaceWindows.{face_begin};
-ghost use Rattle.s2ix_table.specs.FaceSpans.{AreFirstParts};
+ghost use Rattle.s2ix_table.specs.FirstParts.{AreFirstParts};
 
 use s2id_core::{FACE_NUMBERS, FACES};
 use s2ix_table_walk::Window;

@@ -1,15 +1,16 @@
 //! The parts of a table, compared with one table over all leaves.
 ghost use Rattle.std.specs.Prelude.{◌≡◌, ◌<◌, IfSome, length};
 ghost use Rattle.s2ix_bag_lists.specs.Faces.{all_of};
-ghost use Rattle.s2ix_table.specs.FaceSpans.{tables_of};
-ghost use Rattle.s2ix_table.specs.Joined.{AreNeighbours, held_in};
+ghost use Rattle.s2ix_table_parts.specs.FaceSpans.{tables_of};
+ghost use Rattle.s2ix_table_parts.specs.Neighbours.{AreNeighbours, held_in};
 ghost use Rattle.s2ix_table_walk.specs.Table.{leaf_end};
 
 use s2id_core::{CellId, LEAF_END};
 use s2id_samples::SET_UP;
 use s2ix_bag::{Bag, FlatHeld, Held, HeldList};
 use s2ix_bag_samples::{WIDEST, bag_of, change_of};
-use s2ix_table::{ChainTable, NewParts, RangeTable, SpanTable, chain_at, parts_after, parts_over};
+use s2ix_table::{ChainTable, RangeTable, SpanTable, chain_at};
+use s2ix_table_parts::{NewParts, parts_after, parts_over};
 use std::alloc::Global;
 use std::sync::Arc;
 

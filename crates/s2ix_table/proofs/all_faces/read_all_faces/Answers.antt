@@ -3,13 +3,13 @@ use Rattle.std.proofs.Common.{ℕ, ◌+◌, ◌<◌, ◌++◌, [], length, refl,
 use Rattle.std.proofs.lemmas.List.{length-set}
 use Rattle.s2ix_bag_pairs.specs.Collection.{IsCollection}
 use Rattle.s2ix_table.specs.Faces.{held_on}
-use Rattle.s2ix_table.specs.FaceSpans.{AreOnFace, overs_of, spans_of}
-use Rattle.s2ix_table.specs.Parts.{with_parts}
+use Rattle.s2ix_table_parts.specs.FaceSpans.{AreOnFace, overs_of, spans_of}
+use Rattle.s2ix_table_parts.specs.Parts.{with_parts}
 use Rattle.s2ix_table.proofs.AllFaces.{held_few, held_rises, lie_on}
 use Rattle.s2ix_table.proofs.FacePut.{layers_push}
-use Rattle.s2ix_table.proofs.FaceWith.{all_given}
+use Rattle.s2ix_table_parts.proofs.FaceWith.{all_given}
 use Rattle.s2ix_table.proofs.LayersMade.{AreLayersMade, all_layers}
-use Rattle.s2ix_table.proofs.Put.{pushed_overs, pushed_spans}
+use Rattle.s2ix_table_parts.proofs.Put.{pushed_overs, pushed_spans}
 use Rattle.s2ix_table.proofs.all_faces.read_all_faces.Goals as goal
 
 pub all_anew-requires-clause-rises : goal.all_anew-requires-clause-rises

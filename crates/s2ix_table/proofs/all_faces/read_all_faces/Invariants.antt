@@ -1,6 +1,6 @@
 -- The faces before this one are made.
 use Rattle.std.proofs.Common.{◌≡◌, length}
-use Rattle.s2ix_table.specs.FaceSpans.{overs_of, spans_of}
+use Rattle.s2ix_table_parts.specs.FaceSpans.{overs_of, spans_of}
 use Rattle.s2ix_table.proofs.LayersMade.{AreLayersMade}
 use Rattle.s2ix_table.proofs.all_faces.read_all_faces.Given as goal
 

@@ -2,8 +2,8 @@ use Rattle.std.proofs.Common.{◌≡◌, ℕ, suc, ◌+◌, ◌<◌, List, ◌++
 use Rattle.std.proofs.Math.Seq.{take-suc}
 use Rattle.std.proofs.lemmas.List.{get_or-map, length-map}
 use Rattle.s2ix_table_spans.specs.SpanTable.{SpanRanges}
-use Rattle.s2ix_table.specs.FaceSpans.{no_table, spans_of, starts_of}
-use Rattle.s2ix_table.proofs.Shared.{many_shared, seen_at}
+use Rattle.s2ix_table_parts.specs.FaceSpans.{no_table, spans_of, starts_of}
+use Rattle.s2ix_table_parts.proofs.Shared.{many_shared, seen_at}
 use Rattle.s2ix_table.proofs.blocks.begin_at.Goals as goal
 
 -- one start more is alike

@@ -1,5 +1,5 @@
 use Rattle.std.proofs.Common.{◌≡◌, ◌-◌, ◌≤◌, length, take}
-use Rattle.s2ix_table.specs.FaceSpans.{spans_of, starts_of}
+use Rattle.s2ix_table_parts.specs.FaceSpans.{spans_of, starts_of}
 use Rattle.s2ix_table.proofs.blocks.begin_at.Given as goal
 
 abbrev pub invariant-loop-part : goal.invariant-loop-part

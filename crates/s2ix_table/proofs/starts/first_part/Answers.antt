@@ -1,4 +1,4 @@
-use Rattle.s2ix_table.specs.FaceSpans.{face_begin}
+use Rattle.s2ix_table_parts.specs.FaceSpans.{face_begin}
 use Rattle.s2ix_table.proofs.FirstParts.{start_found}
 use Rattle.s2ix_table.proofs.starts.first_part.Goals as goal
 

@@ -1,6 +1,6 @@
 -- Parts that stay, new ones between them.
 use Rattle.std.proofs.Common.{◌++◌, take, drop, ◌∙◌, ap, ap₂, append_assoc}
-use Rattle.s2ix_table.proofs.Shared.{cloned_behind}
+use Rattle.s2ix_table_parts.proofs.Shared.{cloned_behind}
 use Rattle.s2ix_table.proofs.all_faces.AllFaces.push.Goals as goal
 
 pub returns-clause-parts : goal.returns-clause-parts

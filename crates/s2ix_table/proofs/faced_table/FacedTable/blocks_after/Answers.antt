@@ -3,8 +3,8 @@ use Rattle.std.proofs.lemmas.List.{drop-drop, drop-map, map-append, take-append-
 use Rattle.std.proofs.lemmas.Result.{IfOk-weaker}
 use Rattle.s2ix_table_spans.specs.SpanTable.{SpanRanges}
 use Rattle.s2ix_table.specs.declared.blocks.Blocks.{Blocks}
-use Rattle.s2ix_table.specs.FaceSpans.{spans_of, starts_of}
-use Rattle.s2ix_table.specs.Parts.{with_parts}
+use Rattle.s2ix_table_parts.specs.FaceSpans.{spans_of, starts_of}
+use Rattle.s2ix_table_parts.specs.Parts.{with_parts}
 use Rattle.s2ix_table.proofs.faced_table.FacedTable.blocks_after.Goals as goal
 
 -- a list in which some elements give way to the same ones

@@ -2,16 +2,16 @@ use Rattle.std.proofs.Common.{◌≡◌, ℕ, ◌+◌, List, ◌++◌, set, take
 use Rattle.s2ix_bag_pairs.specs.Change.{changed}
 use Rattle.s2ix_bag_pairs.specs.Collection.{Collection}
 use Rattle.s2ix_table_spans.specs.SpanTable.{SpanRanges}
-use Rattle.s2ix_table.specs.FaceSpans.{overs_of, spans_of}
-use Rattle.s2ix_table.specs.Joined.{held_in}
-use Rattle.s2ix_table.specs.Layered.{heavy_in}
-use Rattle.s2ix_table.specs.Layers.{together}
-use Rattle.s2ix_table.specs.Parts.{with_parts}
+use Rattle.s2ix_table_parts.specs.FaceSpans.{overs_of, spans_of}
+use Rattle.s2ix_table_parts.specs.Neighbours.{held_in}
+use Rattle.s2ix_table.specs.Layout.{heavy_in}
+use Rattle.s2ix_table_parts.specs.Layers.{together}
+use Rattle.s2ix_table_parts.specs.Parts.{with_parts}
 use Rattle.s2ix_table.proofs.FacePut.{face_end, face_put_in, same_put}
 use Rattle.s2ix_table.proofs.FirstParts.{first_of_face}
 use Rattle.s2ix_table.proofs.Kept.{back_kept, front_kept, same_back, same_front}
 use Rattle.s2ix_table.proofs.LayersMade.{AreAllMade}
-use Rattle.s2ix_table.proofs.Shared.{many_shared}
+use Rattle.s2ix_table_parts.proofs.Shared.{many_shared}
 use Rattle.s2ix_table.proofs.faced_table.FacedTable.change_face.Goals.{After-shifted_by}
 use Rattle.s2ix_table.proofs.faced_table.FacedTable.change_face.Goals as goal
 

@@ -3,13 +3,14 @@ use Rattle.std.proofs.Common.{ℕ, [], length, set, ap, ◌∙◌, arith, rules}
 use Rattle.s2ix_bag_lists.specs.Faces.{all_of}
 use Rattle.s2ix_bag_pairs.specs.Change.{changed}
 use Rattle.s2ix_table.specs.Faces.{entries_on}
-use Rattle.s2ix_table.specs.FaceSpans.{overs_of, spans_of}
-use Rattle.s2ix_table.specs.Joined.{held_in}
-use Rattle.s2ix_table.specs.Layered.{IsFaceWith, chunks_on, heavy_in}
-use Rattle.s2ix_table.specs.Layers.{together}
+use Rattle.s2ix_table_parts.specs.FaceSpans.{overs_of, spans_of}
+use Rattle.s2ix_table_parts.specs.Neighbours.{held_in}
+use Rattle.s2ix_table_parts.specs.Layered.{IsFaceWith}
+use Rattle.s2ix_table.specs.Layout.{chunks_on, heavy_in}
+use Rattle.s2ix_table_parts.specs.Layers.{together}
 use Rattle.s2ix_table.proofs.AllFaces.{held_few}
 use Rattle.s2ix_table.proofs.LayersMade.{AreAllMade}
-use Rattle.s2ix_table.proofs.Within.{changed_there, table_within}
+use Rattle.s2ix_table.proofs.TableWithin.{changed_there, table_within}
 use Rattle.s2ix_table.proofs.faced_table.FacedTable.chunk_after.Goals.{In-Some-2}
 use Rattle.s2ix_table.proofs.faced_table.FacedTable.chunk_after.Goals as goal
 

@@ -4,9 +4,9 @@ use Rattle.s2ix_table_walk.specs.Links.{AreLinked}
 use Rattle.s2ix_table_walk.specs.Table.{range_at, IsFound}
 use Rattle.s2ix_table_spans.specs.Chains.{chain_of}
 use Rattle.s2ix_table_spans.specs.SpanTable.{SpanRanges}
-use Rattle.s2ix_table.specs.FaceSpans.{spans_of, table_of}
+use Rattle.s2ix_table_parts.specs.FaceSpans.{spans_of, table_of}
 use Rattle.s2ix_table.specs.Joined.{joined_ranges}
-use Rattle.s2ix_table.specs.Layered.{covered, heavy_in}
+use Rattle.s2ix_table.specs.Layout.{covered, heavy_in}
 use Rattle.s2ix_table.specs.Offsets.{place_on}
 use Rattle.s2ix_table.proofs.Reading.{found_in, place_of, same_contents}
 use Rattle.s2ix_table.proofs.faced_table.FacedTable.contents_in.Goals as goal

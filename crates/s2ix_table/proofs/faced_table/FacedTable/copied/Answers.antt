@@ -3,10 +3,10 @@ use Rattle.std.proofs.Common.{◌≡◌, ℕ, ◌+◌, ◌*◌, ◌^◌, ◌<◌
 use Rattle.s2ix_bag_pairs.specs.Collection.{Collection}
 use Rattle.s2ix_table_spans.specs.SpanTable.{SpanRanges}
 use Rattle.s2ix_table_spans.specs.Starts.{IsLastStart}
-use Rattle.s2ix_table.specs.FaceSpans.{overs_of, spans_of}
-use Rattle.s2ix_table.specs.Joined.{held_in}
-use Rattle.s2ix_table.specs.Layered.{heavy_in}
-use Rattle.s2ix_table.specs.Layers.{together}
+use Rattle.s2ix_table_parts.specs.FaceSpans.{overs_of, spans_of}
+use Rattle.s2ix_table_parts.specs.Neighbours.{held_in}
+use Rattle.s2ix_table.specs.Layout.{heavy_in}
+use Rattle.s2ix_table_parts.specs.Layers.{together}
 use Rattle.s2ix_table.proofs.Sound.{IsSound, same_lists}
 use Rattle.s2ix_table.proofs.faced_table.FacedTable.copied.Goals.{In_ok-heavy, In_ok-parts}
 use Rattle.s2ix_table.proofs.faced_table.FacedTable.copied.Goals as goal

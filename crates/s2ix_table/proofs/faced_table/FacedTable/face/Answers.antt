@@ -1,10 +1,12 @@
 use Rattle.std.proofs.Common.{ℕ, slice_index_or, [], subst, sym, ap, ◌∙◌, arith}
 use Rattle.std.proofs.lemmas.List.{get_or_default}
 use Rattle.s2ix_bag_lists.specs.Faces.{all_of}
-use Rattle.s2ix_table.specs.FaceSpans.{of_face, overs_of, parts_of_face, spans_of}
-use Rattle.s2ix_table.specs.Joined.{held_in}
-use Rattle.s2ix_table.specs.Layered.{IsFaceLayered, chunks_on}
-use Rattle.s2ix_table.specs.Layers.{together}
+use Rattle.s2ix_table.specs.FirstParts.{of_face, parts_of_face}
+use Rattle.s2ix_table_parts.specs.FaceSpans.{overs_of, spans_of}
+use Rattle.s2ix_table_parts.specs.Neighbours.{held_in}
+use Rattle.s2ix_table_parts.specs.Layered.{IsFaceLayered}
+use Rattle.s2ix_table.specs.Layout.{chunks_on}
+use Rattle.s2ix_table_parts.specs.Layers.{together}
 use Rattle.s2ix_table.proofs.TableFaces.{face_of_table}
 use Rattle.s2ix_table.proofs.faced_table.FacedTable.face.Goals as goal
 

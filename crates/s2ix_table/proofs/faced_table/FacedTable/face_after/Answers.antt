@@ -4,10 +4,12 @@ use Rattle.s2ix_bag_pairs.specs.Change.{changed}
 use Rattle.s2ix_bag_pairs.specs.Collection.{Collection, IsCollection}
 use Rattle.s2ix_bag_pairs.proofs.Changes.{changed_keeps}
 use Rattle.s2ix_table.specs.Faces.{entries_on, held_on}
-use Rattle.s2ix_table.specs.FaceSpans.{AreOnFace, overs_of, parts_of_face, spans_of}
-use Rattle.s2ix_table.specs.Joined.{held_in}
-use Rattle.s2ix_table.specs.Layered.{IsFaceWith, heavy_in}
-use Rattle.s2ix_table.specs.Layers.{together}
+use Rattle.s2ix_table_parts.specs.FaceSpans.{AreOnFace, overs_of, spans_of}
+use Rattle.s2ix_table.specs.FirstParts.{parts_of_face}
+use Rattle.s2ix_table_parts.specs.Neighbours.{held_in}
+use Rattle.s2ix_table_parts.specs.Layered.{IsFaceWith}
+use Rattle.s2ix_table.specs.Layout.{heavy_in}
+use Rattle.s2ix_table_parts.specs.Layers.{together}
 use Rattle.s2ix_table.proofs.AllFaces.{held_few, held_rises, lie_on}
 use Rattle.s2ix_table.proofs.ChangedOnFaces.{changed_on_face}
 use Rattle.s2ix_table.proofs.FaceLists.{list_none, list_some}

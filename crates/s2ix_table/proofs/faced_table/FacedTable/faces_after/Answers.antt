@@ -2,14 +2,15 @@
 use Rattle.std.proofs.Common.{ℕ, ◌+◌, ◌<◌, ◌++◌, length, take, drop, subst, sym, ap, ◌∙◌, arith}
 use Rattle.std.proofs.lemmas.List.{length-set}
 use Rattle.s2ix_bag_pairs.specs.Change.{changed}
-use Rattle.s2ix_table.specs.FaceSpans.{of_face, overs_of, parts_of_face, spans_of}
-use Rattle.s2ix_table.specs.Joined.{held_in}
-use Rattle.s2ix_table.specs.Layered.{heavy_in}
-use Rattle.s2ix_table.specs.Layers.{together}
-use Rattle.s2ix_table.specs.Parts.{with_parts}
+use Rattle.s2ix_table.specs.FirstParts.{of_face, parts_of_face}
+use Rattle.s2ix_table_parts.specs.FaceSpans.{overs_of, spans_of}
+use Rattle.s2ix_table_parts.specs.Neighbours.{held_in}
+use Rattle.s2ix_table.specs.Layout.{heavy_in}
+use Rattle.s2ix_table_parts.specs.Layers.{together}
+use Rattle.s2ix_table_parts.specs.Parts.{with_parts}
 use Rattle.s2ix_table.proofs.FacePut.{layers_push}
 use Rattle.s2ix_table.proofs.LayersMade.{AreLayersMade, all_layers}
-use Rattle.s2ix_table.proofs.Put.{pushed_overs, pushed_spans}
+use Rattle.s2ix_table_parts.proofs.Put.{pushed_overs, pushed_spans}
 use Rattle.s2ix_table.proofs.faced_table.FacedTable.faces_after.Goals as goal
 
 pub loop-face-preserved : goal.loop-face-preserved

@@ -1,10 +1,10 @@
 -- The faces before this one are made.
 use Rattle.std.proofs.Common.{◌≡◌, length}
 use Rattle.s2ix_bag_pairs.specs.Change.{changed}
-use Rattle.s2ix_table.specs.FaceSpans.{overs_of, spans_of}
-use Rattle.s2ix_table.specs.Joined.{held_in}
-use Rattle.s2ix_table.specs.Layered.{heavy_in}
-use Rattle.s2ix_table.specs.Layers.{together}
+use Rattle.s2ix_table_parts.specs.FaceSpans.{overs_of, spans_of}
+use Rattle.s2ix_table_parts.specs.Neighbours.{held_in}
+use Rattle.s2ix_table.specs.Layout.{heavy_in}
+use Rattle.s2ix_table_parts.specs.Layers.{together}
 use Rattle.s2ix_table.proofs.LayersMade.{AreLayersMade}
 use Rattle.s2ix_table.proofs.faced_table.FacedTable.faces_after.Given as goal
 

@@ -4,8 +4,8 @@ use Rattle.s2ix_table_walk.specs.Contents.{contents_at}
 use Rattle.s2ix_table_walk.specs.Places.{LeadsTo}
 use Rattle.s2ix_table_walk.specs.Table.{range_at}
 use Rattle.s2ix_table_spans.specs.SpanTable.{SpanRanges}
-use Rattle.s2ix_table.specs.FaceSpans.{spans_of, table_of}
-use Rattle.s2ix_table.specs.Layered.{heavy_in}
+use Rattle.s2ix_table_parts.specs.FaceSpans.{spans_of, table_of}
+use Rattle.s2ix_table.specs.Layout.{heavy_in}
 use Rattle.s2ix_table.specs.PartPlaces.{faced_chain}
 use Rattle.s2ix_table.proofs.Behind.{light_leads}
 use Rattle.s2ix_table.proofs.Reading.{same_contents}

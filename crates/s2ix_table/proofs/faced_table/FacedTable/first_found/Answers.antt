@@ -4,9 +4,9 @@ use Rattle.s2id_core.proofs.Nested.{leaf_span, span}
 use Rattle.s2ix_bag_pairs.specs.Collection.{Collection}
 use Rattle.s2ix_table_walk.specs.Places.{LeadsTo}
 use Rattle.s2ix_table_walk.specs.Table.{IsFound}
-use Rattle.s2ix_table.specs.FaceSpans.{spans_of, table_of}
+use Rattle.s2ix_table_parts.specs.FaceSpans.{spans_of, table_of}
 use Rattle.s2ix_table.specs.Joined.{joined_ranges}
-use Rattle.s2ix_table.specs.Layered.{covered, heavy_in}
+use Rattle.s2ix_table.specs.Layout.{covered, heavy_in}
 use Rattle.s2ix_table.specs.Offsets.{place_on}
 use Rattle.s2ix_table.specs.PartPlaces.{faced_chain}
 use Rattle.s2ix_table.proofs.FirstParts.{length_starts}

@@ -2,17 +2,18 @@ use Rattle.std.proofs.Common.{ℕ, ◌<◌, List, length, slice_index_or, sym, �
 use Rattle.std.proofs.lemmas.List.{take_at}
 use Rattle.s2ix_table_walk.specs.Table.{leaf_end}
 use Rattle.s2ix_table.specs.Blocks.{AreBlocks}
-use Rattle.s2ix_table.specs.FaceSpans.{face_begin, spans_of, starts_of, AreFirstParts}
+use Rattle.s2ix_table_parts.specs.FaceSpans.{face_begin, spans_of, starts_of}
+use Rattle.s2ix_table.specs.FirstParts.{AreFirstParts}
 use Rattle.s2ix_table.specs.Joined.{joined_ranges}
-use Rattle.s2ix_table.specs.Layered.{covered, heavy_in}
+use Rattle.s2ix_table.specs.Layout.{covered, heavy_in}
 use Rattle.s2ix_table.specs.Offsets.{offsets_of}
 use Rattle.s2ix_table.proofs.Bordering.{parts_begin}
-use Rattle.s2ix_table.proofs.Cuts.{starts_rise}
+use Rattle.s2ix_table_parts.proofs.Cuts.{starts_rise}
 use Rattle.s2ix_table.proofs.Laid.{laid_joined, laid_rises, many_covered}
 use Rattle.s2ix_table.proofs.LaidOnce.{laid_once}
 use Rattle.s2ix_table.proofs.Offsets.{length_offsets}
 use Rattle.s2ix_table.proofs.Reading.{all_table, first_offset}
-use Rattle.s2ix_table.proofs.Shared.{many_shared}
+use Rattle.s2ix_table_parts.proofs.Shared.{many_shared}
 use Rattle.s2ix_table.proofs.Together.{first_start}
 use Rattle.s2ix_table.proofs.faced_table.FacedTable.from_parts.Goals as goal
 

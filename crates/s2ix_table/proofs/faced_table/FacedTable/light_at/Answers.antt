@@ -1,8 +1,8 @@
 use Rattle.std.proofs.Common.{◌≡◌, ◌<◌, ◌∷◌, drop, length, sym, subst}
 use Rattle.s2ix_bag_pairs.specs.Collection.{Collection}
 use Rattle.s2ix_table_walk.specs.Contents.{contents_at}
-use Rattle.s2ix_table.specs.FaceSpans.{spans_of, table_of}
-use Rattle.s2ix_table.specs.Layered.{heavy_in}
+use Rattle.s2ix_table_parts.specs.FaceSpans.{spans_of, table_of}
+use Rattle.s2ix_table.specs.Layout.{heavy_in}
 use Rattle.s2ix_table.specs.PartPlaces.{chain_from}
 use Rattle.s2ix_table.proofs.Behind.{behind_first, behind_length}
 use Rattle.s2ix_table.proofs.Reading.{chain_read, part_of_place}

@@ -1,6 +1,6 @@
 -- Room changes nothing that a list has.
 use Rattle.std.proofs.Common.{ap, refl}
-use Rattle.s2ix_table.specs.FaceSpans.{overs_of, spans_of}
+use Rattle.s2ix_table_parts.specs.FaceSpans.{overs_of, spans_of}
 use Rattle.s2ix_table.proofs.Sound.{IsSound, same_lists}
 use Rattle.s2ix_table.proofs.faced_table.FacedTable.make_room.Goals as goal
 

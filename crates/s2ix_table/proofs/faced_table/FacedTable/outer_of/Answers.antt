@@ -2,8 +2,8 @@ use Rattle.std.proofs.Common.{◌<◌, ◌++◌, drop, length, sym, ◌∙◌, a
 use Rattle.s2ix_bag_pairs.specs.Collection.{Collection}
 use Rattle.s2ix_table_walk.specs.Contents.{contents_at}
 use Rattle.s2ix_table_walk.specs.Places.{LeadsTo}
-use Rattle.s2ix_table.specs.FaceSpans.{spans_of, table_of}
-use Rattle.s2ix_table.specs.Layered.{heavy_in}
+use Rattle.s2ix_table_parts.specs.FaceSpans.{spans_of, table_of}
+use Rattle.s2ix_table.specs.Layout.{heavy_in}
 use Rattle.s2ix_table.specs.PartPlaces.{chain_from, faced_chain}
 use Rattle.s2ix_table.proofs.Behind.{behind_length, drop_behind, light_leads}
 use Rattle.s2ix_table.proofs.Reading.{chain_read, part_of_place}

@@ -3,7 +3,7 @@ use Rattle.std.proofs.lemmas.List.{get_or_default}
 use Rattle.s2ix_bag_pairs.specs.Collection.{Collection}
 use Rattle.s2ix_table_walk.specs.Places.{IsPlace, LeadsTo}
 use Rattle.s2ix_table_heavy.specs.HeavyChains.{heavy_chain}
-use Rattle.s2ix_table.specs.FaceSpans.{spans_of}
+use Rattle.s2ix_table_parts.specs.FaceSpans.{spans_of}
 use Rattle.s2ix_table.proofs.HeavyOnce.{leads_out, on_some_face}
 use Rattle.s2ix_table.proofs.faced_table.FacedTable.outer_of_heavy.Goals as goal
 

@@ -1,9 +1,9 @@
 use Rattle.std.proofs.Common.{None, get_or, sym, ◌∙◌, ap, arith}
 use Rattle.std.proofs.lemmas.List.{get_or-map}
 use Rattle.s2ix_table_spans.specs.SpanTable.{SpanRanges}
-use Rattle.s2ix_table.specs.FaceSpans.{TablePart, no_table, overs_of, spans_of}
+use Rattle.s2ix_table_parts.specs.FaceSpans.{TablePart, no_table, overs_of, spans_of}
 use Rattle.s2ix_table.proofs.HeavyOnce.{over_there}
-use Rattle.s2ix_table.proofs.Shared.{many_shared, over_at}
+use Rattle.s2ix_table_parts.proofs.Shared.{many_shared, over_at}
 use Rattle.s2ix_table.proofs.faced_table.FacedTable.over.Goals as goal
 
 pub index-requires : goal.index-requires

@@ -1,9 +1,9 @@
 use Rattle.std.proofs.Common.{ℕ, ◌+◌, ◌<◌, length, arith, refl, subst, sym}
 use Rattle.s2id_core.specs.CellId.{raw_of}
 use Rattle.s2ix_table_walk.specs.Table.{IsFound}
-use Rattle.s2ix_table.specs.FaceSpans.{spans_of, table_of}
+use Rattle.s2ix_table_parts.specs.FaceSpans.{spans_of, table_of}
 use Rattle.s2ix_table.specs.Joined.{joined_ranges}
-use Rattle.s2ix_table.specs.Layered.{covered, heavy_in}
+use Rattle.s2ix_table.specs.Layout.{covered, heavy_in}
 use Rattle.s2ix_table.proofs.FirstParts.{length_starts}
 use Rattle.s2ix_table.proofs.Reading.{found_in, place_of}
 use Rattle.s2ix_table.proofs.faced_table.FacedTable.own_found.Goals as goal

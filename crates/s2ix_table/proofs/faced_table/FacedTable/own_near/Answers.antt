@@ -1,10 +1,10 @@
 use Rattle.std.proofs.Common.{◌<◌, length, refl, ◌∙◌, ap, arith}
 use Rattle.s2ix_table_spans.specs.SpanTable.{SpanRanges}
 use Rattle.s2ix_table.specs.declared.offset.Offset.{Offset}
-use Rattle.s2ix_table.specs.FaceSpans.{spans_of}
+use Rattle.s2ix_table_parts.specs.FaceSpans.{spans_of}
 use Rattle.s2ix_table.proofs.Counts.{inner_near}
 use Rattle.s2ix_table.proofs.Reading.{many_offsets, offset_read, ends_few}
-use Rattle.s2ix_table.proofs.Shared.{many_shared}
+use Rattle.s2ix_table_parts.proofs.Shared.{many_shared}
 use Rattle.s2ix_table.proofs.faced_table.FacedTable.own_near.Goals as goal
 
 pub index-requires : goal.index-requires

@@ -1,7 +1,7 @@
 use Rattle.std.proofs.Common.{◌≡◌, ◌-◌, List, length, slice_index_or, sym, ap, subst, arith}
 use Rattle.s2ix_table_spans.specs.Starts.{IsLastStart}
 use Rattle.s2ix_table.specs.declared.offset.Offset.{Offset}
-use Rattle.s2ix_table.specs.FaceSpans.{spans_of}
+use Rattle.s2ix_table_parts.specs.FaceSpans.{spans_of}
 use Rattle.s2ix_table.specs.Offsets.{places_of, place_on, HasOwn, HasRange}
 use Rattle.s2ix_table.proofs.Counts.{own_of, last_listed}
 use Rattle.s2ix_table.proofs.Reading.{first_place, some_parts, many_offsets, offset_read}

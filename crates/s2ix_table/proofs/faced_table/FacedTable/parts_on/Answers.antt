@@ -1,9 +1,9 @@
 use Rattle.std.proofs.Common.{ℕ, ◌+◌, ◌-◌, List, take, drop, sym, ◌∙◌, ap, subst, rules}
 use Rattle.s2ix_table_spans.specs.SpanTable.{SpanRanges}
-use Rattle.s2ix_table.specs.FaceSpans.{face_begin, overs_of, spans_of}
-use Rattle.s2ix_table.specs.Joined.{held_in, AreNeighbours}
+use Rattle.s2ix_table_parts.specs.FaceSpans.{face_begin, overs_of, spans_of}
+use Rattle.s2ix_table_parts.specs.Neighbours.{held_in, AreNeighbours}
 use Rattle.s2ix_table.proofs.FirstParts.{face_parts, first_of_face}
-use Rattle.s2ix_table.proofs.Shared.{overs_between, spans_between}
+use Rattle.s2ix_table_parts.proofs.Shared.{overs_between, spans_between}
 use Rattle.s2ix_table.proofs.faced_table.FacedTable.parts_on.Goals as goal
 
 pub slice_bounds-result-count : goal.slice_bounds-result-count

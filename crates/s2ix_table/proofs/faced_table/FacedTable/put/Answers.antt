@@ -7,17 +7,19 @@ use Rattle.s2ix_table_spans.specs.SpanTable.{SpanRanges}
 use Rattle.s2ix_table_heavy.specs.declared.heavy_place.HeavyPlace.{HeavyPlace}
 use Rattle.s2ix_table.specs.declared.blocks.Blocks.{Blocks}
 use Rattle.s2ix_table.specs.Blocks.{AreBlocks}
-use Rattle.s2ix_table.specs.FaceSpans.{AreFirstParts, face_begin, overs_of, spans_of, starts_of}
+use Rattle.s2ix_table.specs.FirstParts.{AreFirstParts}
+use Rattle.s2ix_table_parts.specs.FaceSpans.{face_begin, overs_of, spans_of, starts_of}
 use Rattle.s2ix_table.specs.Joined.{joined_ranges}
-use Rattle.s2ix_table.specs.Layered.{IsLayout, covered, heavy_in}
+use Rattle.s2ix_table.specs.Layout.{IsLayout, covered, heavy_in}
 use Rattle.s2ix_table.specs.Offsets.{offsets_of, AreOffsetsFrom}
-use Rattle.s2ix_table.specs.Parts.{with_parts}
-use Rattle.s2ix_table.proofs.Cuts.{starts_rise}
+use Rattle.s2ix_table_parts.specs.Parts.{with_parts}
+use Rattle.s2ix_table_parts.proofs.Cuts.{starts_rise}
 use Rattle.s2ix_table.proofs.Laid.{laid_joined, many_covered}
 use Rattle.s2ix_table.proofs.Offsets.{length_offsets}
-use Rattle.s2ix_table.proofs.Put.{put_covered, put_offsets, put_overs, put_spans, put_starts}
+use Rattle.s2ix_table.proofs.OffsetsPut.{put_covered, put_offsets}
+use Rattle.s2ix_table_parts.proofs.Put.{put_overs, put_spans, put_starts}
 use Rattle.s2ix_table.proofs.Reading.{first_offset, many_offsets}
-use Rattle.s2ix_table.proofs.Shared.{many_shared}
+use Rattle.s2ix_table_parts.proofs.Shared.{many_shared}
 use Rattle.s2ix_table.proofs.Sound.{laid_sound, some_number}
 use Rattle.s2ix_table.proofs.Together.{first_start}
 use Rattle.s2ix_table.proofs.faced_table.FacedTable.put.Goals as goal

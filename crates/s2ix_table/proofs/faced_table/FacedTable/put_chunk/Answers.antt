@@ -2,8 +2,8 @@
 use Rattle.std.proofs.Common.{◌≡◌, List, set, subst}
 use Rattle.std.specs.Prelude.{OnOk}
 use Rattle.s2ix_bag_pairs.specs.Collection.{Collection}
-use Rattle.s2ix_table.specs.FaceSpans.{overs_of, spans_of}
-use Rattle.s2ix_table.specs.Layered.{chunks_on}
+use Rattle.s2ix_table_parts.specs.FaceSpans.{overs_of, spans_of}
+use Rattle.s2ix_table.specs.Layout.{chunks_on}
 use Rattle.s2ix_table.proofs.SameOffsets.{put_or_kept, still_sound}
 use Rattle.s2ix_table.proofs.Sound.{IsSound}
 use Rattle.s2ix_table.proofs.faced_table.FacedTable.put_chunk.Goals as goal

@@ -2,9 +2,9 @@ use Rattle.std.proofs.Common.{◌+◌, ◌*◌, length, map, sym, ap, ◌∙◌,
 use Rattle.s2ix_bag_pairs.specs.Collection.{Collection, IsCollection}
 use Rattle.s2ix_table_walk.specs.Table.{IsRangeTable}
 use Rattle.s2ix_table.specs.Faces.{changed_count, changed_on, faces, faces_of}
-use Rattle.s2ix_table.specs.FaceSpans.{spans_of}
+use Rattle.s2ix_table_parts.specs.FaceSpans.{spans_of}
 use Rattle.s2ix_table.specs.Joined.{joined_ranges}
-use Rattle.s2ix_table.specs.Layered.{covered, heavy_in}
+use Rattle.s2ix_table.specs.Layout.{covered, heavy_in}
 use Rattle.s2ix_table.specs.Reading.{HasRead, AreChangedRead, two_searches}
 use Rattle.s2ix_table.proofs.ReadCounts.{few_reads}
 use Rattle.s2ix_table.proofs.faced_table.FacedTable.rebuild.Goals as goal

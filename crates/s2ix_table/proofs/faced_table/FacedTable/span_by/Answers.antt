@@ -1,6 +1,6 @@
 use Rattle.std.proofs.Common.{◌<◌, length, arith, sym, subst}
 use Rattle.s2ix_table_spans.specs.SpanTable.{IsSpanTable}
-use Rattle.s2ix_table.specs.FaceSpans.{spans_of}
+use Rattle.s2ix_table_parts.specs.FaceSpans.{spans_of}
 use Rattle.s2ix_table.proofs.Reading.{known, some_parts}
 use Rattle.s2ix_table.proofs.faced_table.FacedTable.span_by.Goals as goal
 

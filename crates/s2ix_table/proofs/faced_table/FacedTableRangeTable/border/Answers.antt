@@ -1,6 +1,6 @@
 use Rattle.std.proofs.Common.{◌<◌, length, sym, ◌∙◌, ap, arith}
 use Rattle.s2ix_table.specs.declared.offset.Offset.{Offset}
-use Rattle.s2ix_table.specs.FaceSpans.{spans_of}
+use Rattle.s2ix_table_parts.specs.FaceSpans.{spans_of}
 use Rattle.s2ix_table.proofs.Reading.{many_offsets, many_places, offset_read, place_of}
 use Rattle.s2ix_table.proofs.faced_table.FacedTableRangeTable.border.Goals as goal
 

@@ -2,9 +2,9 @@ use Rattle.std.proofs.Common.{ℕ, ◌+◌, arith, subst, sym, ◌∙◌, ap}
 use Rattle.s2id_core.specs.CellId.{raw_of}
 use Rattle.s2ix_table_walk.specs.Table.{IsFound}
 use Rattle.s2ix_table.specs.declared.offset.Offset.{Offset}
-use Rattle.s2ix_table.specs.FaceSpans.{spans_of}
+use Rattle.s2ix_table_parts.specs.FaceSpans.{spans_of}
 use Rattle.s2ix_table.specs.Joined.{joined_ranges}
-use Rattle.s2ix_table.specs.Layered.{covered, heavy_in}
+use Rattle.s2ix_table.specs.Layout.{covered, heavy_in}
 use Rattle.s2ix_table.proofs.Reading.{few_joined, many_offsets, offset_read, place_of}
 use Rattle.s2ix_table.proofs.faced_table.FacedTableRangeTable.find.Goals as goal
 

@@ -3,11 +3,11 @@ use Rattle.std.proofs.lemmas.List.{length-map}
 use Rattle.s2ix_table_walk.specs.Stretches.{IsSample, IsStretch}
 use Rattle.s2ix_table_walk.specs.Table.{Range}
 use Rattle.s2ix_table.specs.declared.offset.Offset.{Offset}
-use Rattle.s2ix_table.specs.FaceSpans.{spans_of}
+use Rattle.s2ix_table_parts.specs.FaceSpans.{spans_of}
 use Rattle.s2ix_table.specs.Joined.{joined_ranges}
-use Rattle.s2ix_table.specs.Layered.{covered, heavy_in}
+use Rattle.s2ix_table.specs.Layout.{covered, heavy_in}
 use Rattle.s2ix_table.proofs.Reading.{many_offsets, offset_read, ends_few}
-use Rattle.s2ix_table.proofs.Shared.{many_shared}
+use Rattle.s2ix_table_parts.proofs.Shared.{many_shared}
 use Rattle.s2ix_table.proofs.Stretches.{part_stretch, some_starts, rest_of}
 use Rattle.s2ix_table.proofs.faced_table.FacedTableRangeTable.stretch.Goals as goal
 

@@ -3,9 +3,9 @@ use Rattle.s2ix_table_walk.specs.LeafWindows.{HaveLeaves}
 use Rattle.s2ix_table_spans.specs.SpanTable.{SpanRanges}
 use Rattle.s2ix_table_spans.specs.Starts.{IsAmong}
 use Rattle.s2ix_table.specs.declared.offset.Offset.{Offset}
-use Rattle.s2ix_table.specs.FaceSpans.{spans_of, table_of}
+use Rattle.s2ix_table_parts.specs.FaceSpans.{spans_of, table_of}
 use Rattle.s2ix_table.specs.Joined.{joined_ranges}
-use Rattle.s2ix_table.specs.Layered.{covered, heavy_in}
+use Rattle.s2ix_table.specs.Layout.{covered, heavy_in}
 use Rattle.s2ix_table.proofs.FirstParts.{leaf_before_end, length_starts, rising_starts}
 use Rattle.s2ix_table.proofs.Reading.{no_offset, many_offsets, many_places, offset_read, ends_few}
 use Rattle.s2ix_table.proofs.Stretches.{parts_window}

@@ -2,16 +2,16 @@
 use Rattle.std.proofs.Common.{◌≡◌, ◌-◌, length, max, set, take, sym, ◌∙◌, ap, arith, subst}
 use Rattle.std.proofs.lemmas.List.{length-set}
 use Rattle.s2ix_table_spans.specs.SpanTable.{SpanRanges}
-use Rattle.s2ix_table.specs.FaceSpans.{spans_of}
-use Rattle.s2ix_table.specs.Joined.{held_in}
-use Rattle.s2ix_table.specs.Layered.{covered, heavy_in}
-use Rattle.s2ix_table.specs.Layers.{together}
+use Rattle.s2ix_table_parts.specs.FaceSpans.{spans_of}
+use Rattle.s2ix_table_parts.specs.Neighbours.{held_in}
+use Rattle.s2ix_table.specs.Layout.{covered, heavy_in}
+use Rattle.s2ix_table_parts.specs.Layers.{together}
 use Rattle.s2ix_table.specs.Offsets.{offset_at, offsets_of}
 use Rattle.s2ix_table.proofs.Laid.{laid_over, many_covered, same_count}
 use Rattle.s2ix_table.proofs.Moving.{behind_later, behind_set, counted_all, counted_first, last_few}
 use Rattle.s2ix_table.proofs.OneFace.{some_parts}
 use Rattle.s2ix_table.proofs.Reading.{first_offset}
-use Rattle.s2ix_table.proofs.Shared.{many_shared, seen_at}
+use Rattle.s2ix_table_parts.proofs.Shared.{many_shared, seen_at}
 use Rattle.s2ix_table.proofs.Together.{all_counted}
 use Rattle.s2ix_table.proofs.layout.Layout.count_from.Goals as goal
 

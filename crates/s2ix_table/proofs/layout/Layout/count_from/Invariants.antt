@@ -1,7 +1,7 @@
 -- The offsets of the parts before the next one are right.
 use Rattle.std.proofs.Common.{◌≡◌, ◌-◌, ◌<◌, ◌≤◌, length, max, take}
-use Rattle.s2ix_table.specs.FaceSpans.{spans_of}
-use Rattle.s2ix_table.specs.Layered.{covered, heavy_in}
+use Rattle.s2ix_table_parts.specs.FaceSpans.{spans_of}
+use Rattle.s2ix_table.specs.Layout.{covered, heavy_in}
 use Rattle.s2ix_table.specs.Offsets.{offsets_of, AreOffsetsFrom}
 use Rattle.s2ix_table.proofs.layout.Layout.count_from.Given as goal
 

@@ -1,16 +1,16 @@
 -- The next offset is put in its place, or all from it on are moved.
 use Rattle.std.proofs.Common.{◌-◌, length, max, take, sym, ◌∙◌, ap, arith, subst}
 use Rattle.s2ix_table_spans.specs.SpanTable.{SpanRanges}
-use Rattle.s2ix_table.specs.FaceSpans.{spans_of}
-use Rattle.s2ix_table.specs.Joined.{held_in}
-use Rattle.s2ix_table.specs.Layered.{covered, heavy_in}
-use Rattle.s2ix_table.specs.Layers.{together}
+use Rattle.s2ix_table_parts.specs.FaceSpans.{spans_of}
+use Rattle.s2ix_table_parts.specs.Neighbours.{held_in}
+use Rattle.s2ix_table.specs.Layout.{covered, heavy_in}
+use Rattle.s2ix_table_parts.specs.Layers.{together}
 use Rattle.s2ix_table.specs.Offsets.{offset_at, AreOffsetsFrom}
 use Rattle.s2ix_table.proofs.Laid.{after_laid, are_told, laid_over, many_covered, parts_meet}
 use Rattle.s2ix_table.proofs.Moving.{counted_one, last_few, moved_right, own_behind}
 use Rattle.s2ix_table.proofs.Offsets.{length_offsets}
 use Rattle.s2ix_table.proofs.Reading.{first_offset}
-use Rattle.s2ix_table.proofs.Shared.{many_shared, seen_at}
+use Rattle.s2ix_table_parts.proofs.Shared.{many_shared, seen_at}
 use Rattle.s2ix_table.proofs.layout.Layout.count_next.Goals as goal
 
 pub of_next-offset-requires-clause-within_limit : goal.of_next-offset-requires-clause-within_limit

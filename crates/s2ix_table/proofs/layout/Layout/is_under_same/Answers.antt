@@ -1,10 +1,10 @@
 -- The heavy pairs over two parts are the same if one place leads to them.
 use Rattle.std.proofs.Common.{◌-◌, option_map, sym, ◌∙◌, ap, arith}
 use Rattle.s2ix_table_spans.specs.SpanTable.{SpanRanges}
-use Rattle.s2ix_table.specs.Layered.{face_with}
+use Rattle.s2ix_table.specs.Layout.{face_with}
 use Rattle.s2ix_table.specs.PartPlaces.{place_of_face}
 use Rattle.s2ix_table.proofs.LaidOnce.{read_told}
-use Rattle.s2ix_table.proofs.Shared.{over_at, seen_at}
+use Rattle.s2ix_table_parts.proofs.Shared.{over_at, seen_at}
 use Rattle.s2ix_table.proofs.layout.Layout.is_under_same.Goals as goal
 
 pub returns : goal.returns

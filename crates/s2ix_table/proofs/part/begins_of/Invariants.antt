@@ -1,6 +1,0 @@
-use Rattle.std.proofs.Common.{◌≡◌, take}
-use Rattle.s2ix_table.specs.FaceSpans.{spans_of, starts_of}
-use Rattle.s2ix_table.proofs.part.begins_of.Given as goal
-
-abbrev pub invariant-loop-part : goal.invariant-loop-part
-invariant-loop-part l = l.begins.items ≡ take l.part-index (starts_of (spans_of l.parts))

@@ -1,6 +1,0 @@
-use Rattle.std.proofs.Common.{◌≡◌, ◌%◌, ◌≤◌, take}
-use Rattle.s2ix_table.specs.Parts.{BeginsFrom}
-use Rattle.s2ix_table.proofs.parts.least_begin.Given as goal
-
-abbrev pub invariant-loop-h : goal.invariant-loop-h
-invariant-loop-h l = (l.least % 2 ≡ 1) × (l.least ≤ l.most) × BeginsFrom (take l.h-index l.held) l.least

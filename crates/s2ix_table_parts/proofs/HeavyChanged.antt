@@ -1,0 +1,73 @@
+-- What a change of heavy cells makes of a face: its light pairs stay, and other heavy pairs lie over them.
+use Rattle.std.proofs.Common.{◌≡◌, ℕ, ◌+◌, Option, List, length, sym, ap, ap₂, ◌∙◌, arith, subst}
+use Rattle.s2ix_bag_lists.specs.Faces.{all_of}
+use Rattle.s2ix_bag_pairs.specs.Change.{IsChangeList, changed}
+use Rattle.s2ix_bag_pairs.specs.Collection.{Collection, IsCollection}
+use Rattle.s2ix_bag_pairs.specs.declared.pair.Entry.{Entry}
+use Rattle.s2ix_bag_pairs.proofs.Changes.{changed_keeps}
+use Rattle.s2ix_bag_pairs.proofs.Collections.{same_collection}
+use Rattle.s2ix_table_spans.specs.SpanTable.{SpanRanges}
+use Rattle.s2ix_table_heavy.specs.Chunks.{AreChunks}
+use Rattle.s2ix_table_heavy.specs.declared.heavy_place.HeavyPlace.{HeavyPlace}
+use Rattle.s2ix_table_parts.specs.FaceSpans.{AreOnFace, face_begin}
+use Rattle.s2ix_table_parts.specs.Neighbours.{held_in}
+use Rattle.s2ix_table_parts.specs.Layered.{AreLightParts, HaveOtherCells, IsFaceLayered, IsFaceWith}
+use Rattle.s2ix_table_parts.specs.Layers.{ShareNoCell, together}
+use Rattle.s2ix_table_parts.proofs.FaceWith.{all_given, length_overs}
+use Rattle.s2ix_table_parts.proofs.Layers.{cells_part_pairs, count_together, together_rises}
+use Rattle.s2ix_table_parts.proofs.LightChanged.{light_layer, still_apart}
+use Rattle.s2ix_table_parts.proofs.Neighbours.{all_rise}
+
+-- ---- the layers in the other order
+
+apart_turned : (light heavy : Collection) → ShareNoCell light heavy → ShareNoCell heavy light
+apart_turned light heavy apart h l in_heavy in_light same = apart l h in_light in_heavy (sym same)
+
+together_turned : (light heavy : Collection) → IsCollection light → IsCollection heavy → ShareNoCell light heavy
+    → together light heavy ≡ together heavy light
+together_turned light heavy c d apart =
+    same_collection (together light heavy) (together heavy light) (together_rises light heavy c) (together_rises heavy light d) (λ p.
+    let one = count_together light heavy p c d (cells_part_pairs light heavy apart) in
+    let other = count_together heavy light p d c (cells_part_pairs heavy light (apart_turned light heavy apart)) in
+    omega (arith, one, other))
+
+-- ---- the heavy layer changes alone
+
+-- the light cells are still none of the heavy ones
+pub heavy_apart : (light heavy : Collection) (es : List Entry) → ShareNoCell light heavy → HaveOtherCells es light
+    → ShareNoCell light (changed heavy es)
+heavy_apart light heavy es apart other =
+    apart_turned (changed heavy es) light (still_apart heavy light es (apart_turned light heavy apart) other)
+
+-- a change beside all light cells changes the heavy layer alone
+pub heavy_layer : (light heavy : Collection) (es : List Entry) → IsCollection light → IsCollection heavy → ShareNoCell light heavy
+    → IsChangeList es → HaveOtherCells es light → changed (together light heavy) es ≡ together light (changed heavy es)
+heavy_layer light heavy es c d apart rise other =
+    ap (λ hs. changed hs es) (together_turned light heavy c d apart)
+    ∙ light_layer heavy light es d other
+    ∙ sym (together_turned light (changed heavy es) c (changed_keeps heavy es d rise) (heavy_apart light heavy es apart other))
+
+-- ---- the face then
+
+-- other heavy pairs lie over the same light pairs
+pub under_chunks : (face count first end : ℕ) (ts made : List SpanRanges) (overs made_overs : List (Option HeavyPlace))
+    (heavy now : List Collection) (es : List Entry) → first ≡ 0 → end ≡ count → count ≡ length ts
+    → IsFaceLayered face heavy ts overs → IsChangeList es → HaveOtherCells es (held_in ts) → AreOnFace face (changed (all_of heavy) es)
+    → AreChunks now → all_of now ≡ changed (all_of heavy) es
+    → AreLightParts now (held_in ts) (face_begin face) made made_overs (face_begin (face + 1))
+    → IsFaceWith face (changed (together (held_in ts) (all_of heavy)) es) ts overs first end made made_overs now
+under_chunks face count first end ts made overs made_overs heavy now es none last all was rise other on_face are_chunks pairs laid =
+    let light : Collection = held_in ts in
+    let c = all_rise (face_begin face) ts (face_begin (face + 1)) was.neighbours in
+    let back = sym pairs in
+    let apart : ShareNoCell light (all_of now) = subst (ShareNoCell light) back (heavy_apart light (all_of heavy) es was.apart other) in
+    all_given face count first end (changed (together light (all_of heavy)) es) ts made overs made_overs now none last all
+    (length_overs heavy ts overs was.overs_are)
+    (record {
+      neighbours = laid.neighbours;
+      are_chunks = are_chunks;
+      on_face = subst (AreOnFace face) back on_face;
+      apart = subst (λ (hs : Collection). ShareNoCell hs (all_of now)) (sym laid.pairs) apart;
+      overs_are = laid.overs_are;
+    })
+    (ap₂ together laid.pairs pairs ∙ sym (heavy_layer light (all_of heavy) es c was.are_chunks.rises was.apart rise other))
