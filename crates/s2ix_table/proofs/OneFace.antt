@@ -1,4 +1,4 @@
--- Some elements of a list give way to others.
+-- The offsets of parts of which some give way to others, and how many there are.
 use Rattle.std.proofs.Common.{◌≡◌, ℕ, zero, suc, ◌+◌, ◌-◌, ◌<◌, ◌≤◌, List, [], ◌∷◌, ◌++◌, length, take, drop, refl, sym, ◌∙◌, ap, arith}
 use Rattle.std.proofs.lemmas.List.{length-append, length-drop, length-take-le}
 use Rattle.s2ix_table_walk.specs.Table.{leaf_end}
@@ -6,8 +6,6 @@ use Rattle.s2ix_table_spans.specs.SpanTable.{SpanRanges}
 use Rattle.s2ix_table.specs.declared.offset.Offset.{Offset}
 use Rattle.s2ix_table_parts.specs.Neighbours.{AreNeighbours}
 use Rattle.s2ix_table.specs.Offsets.{offset_after, offsets_from}
-
--- ---- some elements give way to others
 
 -- the offsets of those before them stay
 pub first_alone : (o : Offset) (t : SpanRanges) (ts : List SpanRanges) → take 1 (offsets_from o (t ∷ ts)) ≡ o ∷ []

@@ -34,7 +34,8 @@
 //!
 //! The crates below this one: `s2ix_table_walk` defines the ranges of a bag and what meets a target, finds it, and counts what it reads;
 //! `s2ix_table_queries` has the trait with its queries, and `CopiedTable`; `s2ix_table_spans` builds the shared chains over a span of
-//! leaves; `s2ix_table_heavy` keeps the pairs of heavy cells. Here are the readers of a bag, and the tables that share chains.
+//! leaves; `s2ix_table_heavy` keeps the pairs of heavy cells; `s2ix_table_parts` makes the parts of a face, and what a change makes of them.
+//! Here are the readers of a bag, and the tables that share chains: how the parts of six faces become one table is here too.
 #![tactic(auto)]
 
 mod all_faces;

@@ -21,8 +21,11 @@ use std::alloc::Global;
 /// A face of a table: its parts, and the heavy pairs over them.
 #[derive(Clone, Copy)]
 pub struct Face<'a> {
+    /// The face, 0 to 5.
     pub face: u8,
+    /// Its parts, from its first leaf to its last.
     pub parts: &'a [Part],
+    /// The heavy pairs over them.
     pub heavy: &'a HeavyPairs,
 }
 
@@ -146,7 +149,7 @@ impl Face<'_> {
         Ok(new)
     }
 
-    /// The face as it is: no part gives way.
+    /// The face as it is: no part gives way, and the heavy pairs are shared. O(1). `OutOfMemory` if they are shared too often.
     pub fn unchanged(self, alloc: Global) -> Result<NewFace, OutOfMemory>
         requires { IsFaceLayered self.face self.heavy.now (spans_of self.parts.now) (overs_of self.parts.now) }
         ensures face { IfOk result (λ new. new.face ≡ self.entry.face) }

@@ -17,18 +17,23 @@ pub struct NewParts {
     pub parts: Vec<Arc<SpanTable>>,
 }
 
-/// What a change makes of a face: its parts with numbers from `first` on and before `end` give way to `parts`, and these are its heavy pairs.
+/// What a change makes of a face: its parts with numbers from `first` on and before `end` give way to `parts`, and the others stay.
 #[derive(Drop)]
 pub struct NewFace {
+    /// The face, 0 to 5.
     pub face: usize,
+    /// The number of the first part that gives way.
     pub first: usize,
+    /// The number of the first part after them that stays.
     pub end: usize,
+    /// What takes their place.
     pub parts: Vec<Part>,
+    /// The heavy pairs over all parts that the face has then.
     pub heavy: HeavyPairs,
 }
 
 impl NewFace {
-    /// The same of a face whose parts come after so many others.
+    /// The same of a face whose parts come after so many others in one list. O(1).
     pub fn shifted_by(self, count: usize) -> NewFace
         requires order { self.first ≤ self.end }
         requires fits { count + self.end < 2 ^ 64 }

@@ -14,7 +14,9 @@ use std::alloc::Global;
 
 impl Face<'_> {
     /// What a change makes of the chunk into which all its entries fall, as `HeavyTable::changed_chunk` does it. Over each part lie the heavy
-    /// pairs of the same chunks then, so all parts stay, with the places that lead to these pairs.
+    /// pairs of the same chunks then, so all parts stay, with the places that lead to these pairs. `None` if the entries fall into no chunk or
+    /// into several, or if the chunk would have no pair left or more than `max_part_len`. O(log c + m + k) for c chunks, m entries and the k
+    /// pairs of the chunk. `OutOfMemory` if a growth is refused.
     pub fn chunk_after(
         self,
         alloc: Global,
