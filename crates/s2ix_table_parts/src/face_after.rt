@@ -19,7 +19,7 @@ use s2ix_bag_pairs::Entry;
 use std::alloc::Global;
 
 /// A face of a table: its parts, and the heavy pairs over them.
-#[derive(Clone, Copy)]
+#[derive(Clone, Copy, Debug)]
 pub struct Face<'a> {
     /// The face, 0 to 5.
     pub face: u8,

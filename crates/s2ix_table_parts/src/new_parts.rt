@@ -18,7 +18,7 @@ pub struct NewParts {
 }
 
 /// What a change makes of a face: its parts with numbers from `first` on and before `end` give way to `parts`, and the others stay.
-#[derive(Drop)]
+#[derive(Debug, Drop)]
 pub struct NewFace {
     /// The face, 0 to 5.
     pub face: usize,
