@@ -20,7 +20,6 @@ mod replaying;
 pub use replay_error::ReplayError;
 pub use replaying::{replay, rewind};
 pub use s2ix_bag_changes::{Bag, Change, LabelIter};
-pub use s2ix_bag_lists::{
-    ApplyError, ChangeError, FlatHeld, HeldIter, HeldList, HeldParts, RevertError,
-};
+pub use s2ix_bag_held::{FlatHeld, HeldList};
+pub use s2ix_bag_lists::{ApplyError, ChangeError, HeldIter, HeldParts, RevertError};
 pub use s2ix_bag_pairs::{Entry, Held, Label, Limits, Pair};

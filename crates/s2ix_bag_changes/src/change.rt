@@ -5,7 +5,8 @@ ghost use Rattle.s2ix_bag_lists.specs.Entries.{IsChangeError, change_fault};
 
 use crate::bag::Bag;
 use s2id_core::OutOfMemory;
-use s2ix_bag_lists::{ChangeError, FlatHeld, differences, exchanged_entries, fault};
+use s2ix_bag_held::FlatHeld;
+use s2ix_bag_lists::{ChangeError, differences, exchanged_entries, fault};
 use s2ix_bag_pairs::Entry;
 use std::alloc::{AllocError, Global};
 use std::marker::Model;

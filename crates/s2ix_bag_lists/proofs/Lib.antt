@@ -1,5 +1,4 @@
 pub mod Applied
-pub mod LabelFilters
 pub mod Lengths
 pub mod Refusals
 pub mod Walks

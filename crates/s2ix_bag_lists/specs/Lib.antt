@@ -12,5 +12,4 @@ pub use Rattle.s2ix_bag_pairs.specs.Pair
 pub use Rattle.s2ix_bag_pairs.specs.Ranges
 pub use Rattle.s2ix_bag_pairs.specs.TakenBack
 pub mod Faces
-pub mod LabelFilter
 pub mod Parts

@@ -3,9 +3,9 @@ ghost use Rattle.std.specs.List.{list_any};
 ghost use Rattle.s2ix_bag_pairs.specs.Change.{IsChangeList, changed};
 ghost use Rattle.s2ix_bag_pairs.specs.Collection.{IsCollection, count_in, held_with};
 
-use crate::flat::FlatHeld;
 use crate::search::{count_first, next_from, past_pair};
 use s2id_core::OutOfMemory;
+use s2ix_bag_held::FlatHeld;
 use s2ix_bag_pairs::{Entry, Held, Pair};
 use std::alloc::Global;
 

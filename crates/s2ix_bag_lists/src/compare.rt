@@ -2,9 +2,9 @@ ghost use Rattle.std.specs.Prelude.{◌≡◌, ◌++◌, [], map, IfOk, OnOk};
 ghost use Rattle.s2ix_bag_pairs.specs.Change.{change_between, entry_with, removal_of, inverse_of};
 ghost use Rattle.s2ix_bag_pairs.specs.Collection.{IsCollection};
 
-use crate::flat::FlatHeld;
 use crate::search::{count_first, next_from, past_pair};
 use s2id_core::OutOfMemory;
+use s2ix_bag_held::FlatHeld;
 use s2ix_bag_pairs::{Entry, Pair};
 use std::alloc::Global;
 

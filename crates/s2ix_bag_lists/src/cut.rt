@@ -3,9 +3,8 @@ ghost use Rattle.std.specs.Prelude.{◌≡◌, ◌<◌, ◌≤◌, length, IfOk,
 ghost use Rattle.s2ix_bag_lists.specs.Faces.{all_of};
 ghost use Rattle.s2ix_bag_lists.specs.Parts.{AreFilled};
 
-use crate::flat::FlatHeld;
-use crate::held_list::HeldList;
 use s2id_core::OutOfMemory;
+use s2ix_bag_held::{FlatHeld, HeldList};
 use std::alloc::Global;
 
 // For each pair the least leaf number at which its cell or a later one begins.

@@ -5,7 +5,7 @@ ghost use Rattle.s2ix_bag_pairs.specs.Change.{IsChangeList, IsChangeListFrom};
 ghost use Rattle.s2ix_bag_pairs.specs.Collection.{IsCollection, IsCollectionFrom, AreBelow};
 ghost use Rattle.s2ix_bag_pairs.specs.Pair.{rank_of};
 
-use crate::flat::FlatHeld;
+use s2ix_bag_held::FlatHeld;
 use s2ix_bag_pairs::{Entry, Pair};
 
 // Whether a pair is of a face, or of one before it.

@@ -4,9 +4,8 @@ ghost use Rattle.s2ix_bag_lists.specs.Faces.{all_of};
 ghost use Rattle.s2ix_bag_lists.specs.Parts.{AreFilled};
 ghost use Rattle.s2ix_bag_pairs.specs.OfLabel.{held_of};
 
-use crate::flat::FlatHeld;
-use crate::held_list::HeldList;
 use crate::held_parts::HeldParts;
+use s2ix_bag_held::{FlatHeld, HeldList};
 use s2ix_bag_pairs::{Held, Label};
 use std::marker::Model;
 

@@ -7,12 +7,11 @@ ghost use Rattle.s2ix_bag_pairs.specs.Collection.{IsCollection, count_in};
 
 use crate::apply::{first_mismatch, merge};
 use crate::cut::{cut, pieces};
-use crate::flat::FlatHeld;
-use crate::held_list::HeldList;
 use crate::part_list::PartList;
 use crate::parts_after::parts_after;
 use crate::parts_mismatch::mismatch_in_parts;
 use s2id_core::OutOfMemory;
+use s2ix_bag_held::{FlatHeld, HeldList};
 use s2ix_bag_pairs::{Entry, Held, Pair};
 use std::alloc::{AllocError, Global};
 use std::marker::Model;

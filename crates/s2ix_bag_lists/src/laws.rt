@@ -1,6 +1,5 @@
 //! Laws: functions that do nothing; their contracts state facts about definitions.
 ghost use Rattle.std.specs.Prelude.{◌≡◌, ◌↔◌, IsTrue};
-ghost use Rattle.s2ix_bag_pairs.specs.declared.pair.Held.{Held};
 ghost use Rattle.s2ix_bag_lists.specs.Laws.{ChangesHaveNoFault, InverseTakesBack, InverseTakesBackAtOnce};
 ghost use Rattle.s2ix_bag_lists.specs.declared.errors.ApplyError.{ApplyError};
 ghost use Rattle.s2ix_bag_lists.specs.declared.errors.ChangeError.{ChangeError};
@@ -8,9 +7,7 @@ ghost use Rattle.s2ix_bag_lists.specs.declared.errors.RevertError.{RevertError};
 ghost use Rattle.s2ix_bag_pairs.specs.Collection.{Collection};
 
 use crate::errors::{ApplyError, ChangeError, RevertError};
-use crate::flat::FlatHeld;
 use crate::held_iter::HeldIter;
-use crate::held_list::HeldList;
 use crate::held_parts::HeldParts;
 use crate::lists::FaceLists;
 
@@ -46,20 +43,9 @@ pub fn cloned_errors_are_the_same()
     ensures never_fails_change { (error : ChangeError) → ⟦<ChangeError as Clone>⟧.is_infallible error }
 {}
 
-/// The clone of a flat held pair stands for the same held pair, and cloning never fails.
-pub fn cloned_flat_pairs_are_the_same()
-    ensures same { (held copy : Held) → ⟦<FlatHeld as Clone>⟧.is_clone held copy ↔ (copy ≡ held) }
-    ensures never_fails { (held : Held) → ⟦<FlatHeld as Clone>⟧.is_infallible held }
-{}
-
 /// Two lists of held pairs are equal exactly if they hold the same pairs with the same counts.
 pub fn equal_lists_are_one()
     ensures { (a b : Collection) → IsTrue (⟦<FaceLists as PartialEq>⟧.eq a b) ↔ (a ≡ b) }
-{}
-
-/// A clone of a list of held pairs holds the same pairs with the same counts.
-pub fn cloned_held_lists_are_the_same()
-    ensures { (list copy : Collection) → ⟦<HeldList as Clone>⟧.is_clone list copy ↔ (copy ≡ list) }
 {}
 
 /// A clone of a list in parts holds the same pairs with the same counts.

@@ -4,9 +4,9 @@
 //! is a change ([`fault`]). The other calls require that their lists are in order, and do not test it.
 //!
 //! As a whole: a [`FaceLists`] holds the pairs of a collection, and contracts see them as one rising list. It keeps the pairs of each face
-//! in a [`HeldParts`], which cuts them into parts. All of it is shared: a copy raises six counters. A change copies only the parts on which
-//! it has entries, and parts beside them that have become small. Each part has a filter of its labels, so that a search for a label's pairs
-//! passes over most parts that have none. Costs are for n held pairs and m entries.
+//! in a [`HeldParts`], which cuts them into parts: lists of `s2ix_bag_held`. All of it is shared: a copy raises six counters. A change
+//! copies only the parts on which it has entries, and parts beside them that have become small. Each part has a filter of its labels, so
+//! that a search for a label's pairs passes over most parts that have none. Costs are for n held pairs and m entries.
 #![tactic(auto)]
 
 mod apply;
@@ -15,12 +15,8 @@ mod cut;
 mod entries;
 mod errors;
 mod face_ends;
-mod filtered_held;
-mod flat;
 mod held_iter;
-mod held_list;
 mod held_parts;
-mod label_filter;
 pub mod laws;
 mod lists;
 mod part_list;
@@ -34,9 +30,7 @@ pub use apply::{gains, has_count_above, losses, merge};
 pub use compare::{differences, exchanged_entries};
 pub use entries::fault;
 pub use errors::{ApplyError, ChangeError, RevertError};
-pub use flat::FlatHeld;
 pub use held_iter::HeldIter;
-pub use held_list::HeldList;
 pub use held_parts::HeldParts;
 pub use lists::FaceLists;
 pub use search::count_of;

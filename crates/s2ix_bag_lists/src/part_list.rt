@@ -3,10 +3,10 @@ ghost use Rattle.s2ix_bag_lists.specs.Faces.{all_of};
 ghost use Rattle.s2ix_bag_lists.specs.Parts.{AreFilled, IsPartAt, starts_from};
 ghost use Rattle.s2ix_bag_pairs.specs.Collection.{IsCollection, count_in};
 
-use crate::held_list::HeldList;
 use crate::part_search::{last_start, part_of};
 use crate::search::count_of;
 use s2id_core::OutOfMemory;
+use s2ix_bag_held::HeldList;
 use s2ix_bag_pairs::{Held, Pair};
 use std::alloc::Global;
 use std::marker::Model;

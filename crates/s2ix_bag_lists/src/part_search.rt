@@ -6,7 +6,7 @@ ghost use Rattle.s2ix_bag_pairs.specs.Change.{IsChangeList, IsChangeListFrom};
 ghost use Rattle.s2ix_bag_pairs.specs.Collection.{IsCollection, IsCollectionFrom, AreBelow};
 ghost use Rattle.s2ix_bag_pairs.specs.Pair.{rank_of};
 
-use crate::held_list::HeldList;
+use s2ix_bag_held::HeldList;
 use s2ix_bag_pairs::{Entry, Pair};
 
 // The part that a pair is in, or would go into. O(log p) for p parts.

@@ -8,9 +8,9 @@ ghost use Rattle.s2ix_bag_pairs.specs.Collection.{IsCollection};
 
 use crate::apply::merge;
 use crate::cut::cut;
-use crate::held_list::HeldList;
 use crate::part_search::{entries_up_to_part, part_of};
 use s2id_core::OutOfMemory;
+use s2ix_bag_held::HeldList;
 use s2ix_bag_pairs::Entry;
 use std::alloc::Global;
 

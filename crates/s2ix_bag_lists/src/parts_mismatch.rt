@@ -6,8 +6,8 @@ ghost use Rattle.s2ix_bag_pairs.specs.Change.{IsChangeList};
 ghost use Rattle.s2ix_bag_pairs.specs.Collection.{IsCollection, count_in};
 
 use crate::apply::first_mismatch;
-use crate::held_list::HeldList;
 use crate::part_search::{entries_up_to_part, part_of};
+use s2ix_bag_held::HeldList;
 use s2ix_bag_pairs::Entry;
 
 /// The place of the first entry whose count before is not that of the held pairs. It searches a part for each run of entries that fall into

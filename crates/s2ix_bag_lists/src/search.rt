@@ -2,7 +2,7 @@ ghost use Rattle.std.specs.Prelude.{◌≡◌, ◌<◌, ◌≤◌, ◌↔◌, Is
 ghost use Rattle.s2ix_bag_pairs.specs.Collection.{IsCollection, IsCollectionFrom, AreBelow, count_in, past};
 ghost use Rattle.s2ix_bag_pairs.specs.Pair.{rank_of};
 
-use crate::flat::FlatHeld;
+use s2ix_bag_held::FlatHeld;
 use s2ix_bag_pairs::Pair;
 
 // Whether two pairs are the same.

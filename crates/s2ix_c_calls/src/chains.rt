@@ -16,7 +16,7 @@ ghost use Rattle.s2ix_c_calls.specs.Status.{done};
 use crate::rows::{Row, row_for};
 use crate::status::{DONE, NO_ROOM};
 use s2id_core::CellId;
-use s2ix_bag_lists::FlatHeld;
+use s2ix_bag_held::FlatHeld;
 use s2ix_table_queries::{LeafHint, RangeTable};
 
 // Where the chain of a range begins, or `None` if nothing lies over it.

@@ -9,7 +9,7 @@ ghost use Rattle.s2ix_c_calls.specs.Status.{done};
 use crate::rows::{Row, row_for};
 use crate::status::{DONE, NO_LABEL, NO_ROOM};
 use s2ix_bag_changes::Bag;
-use s2ix_bag_lists::FlatHeld;
+use s2ix_bag_held::FlatHeld;
 use s2ix_bag_pairs::Label;
 use s2ix_edit::Store;
 

@@ -5,7 +5,8 @@ ghost use Rattle.s2ix_bag_pairs.specs.OneProof.{IsCollection-prop};
 use crate::pair_reader::PairReader;
 use s2id_core::OutOfMemory;
 use s2ix_bag_changes::Bag;
-use s2ix_bag_lists::{FlatHeld, HeldParts};
+use s2ix_bag_held::FlatHeld;
+use s2ix_bag_lists::HeldParts;
 use s2ix_bag_pairs::Held;
 use std::alloc::Global;
 

@@ -10,7 +10,7 @@ ghost use Rattle.s2ix_table_spans.specs.OneProof.{chains_once-prop};
 use crate::shares_chains::SharesChains;
 use s2id_core::{CellId, LEAF_END, OutOfMemory};
 use s2ix_bag_changes::Bag;
-use s2ix_bag_lists::HeldList;
+use s2ix_bag_held::HeldList;
 use s2ix_bag_pairs::Held;
 use s2ix_table_queries::{LeafContents, LeafHint, RangeTable};
 use s2ix_table_spans::SpanTable;

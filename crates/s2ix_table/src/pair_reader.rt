@@ -3,7 +3,8 @@ ghost use Rattle.s2ix_bag_pairs.specs.Collection.{Collection};
 ghost use Rattle.s2ix_table.specs.Reading.{HasRead, IsRead, with_read, with_reads};
 
 use s2id_core::OutOfMemory;
-use s2ix_bag_lists::{FlatHeld, HeldParts};
+use s2ix_bag_held::FlatHeld;
+use s2ix_bag_lists::HeldParts;
 use s2ix_bag_pairs::Held;
 use std::alloc::Global;
 

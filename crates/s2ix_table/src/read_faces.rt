@@ -10,7 +10,8 @@ use crate::changes::changed_faces;
 use crate::pair_reader::PairReader;
 use s2id_core::OutOfMemory;
 use s2ix_bag_changes::Change;
-use s2ix_bag_lists::{FlatHeld, HeldParts};
+use s2ix_bag_held::FlatHeld;
+use s2ix_bag_lists::HeldParts;
 use s2ix_bag_pairs::Pair;
 use std::alloc::Global;
 

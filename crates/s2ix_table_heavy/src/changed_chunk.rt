@@ -10,7 +10,8 @@ ghost use Rattle.s2ix_table_heavy.specs.ChangedChunk.{FitsChunk, IsPairOf, LieAl
 
 use crate::heavy_table::HeavyTable;
 use s2id_core::OutOfMemory;
-use s2ix_bag_lists::{HeldList, merge};
+use s2ix_bag_held::HeldList;
+use s2ix_bag_lists::merge;
 use s2ix_bag_pairs::{Entry, Held, Pair};
 use std::alloc::Global;
 

@@ -5,7 +5,7 @@ ghost use Rattle.s2ix_bag_pairs.specs.Collection.{IsCollection};
 ghost use Rattle.s2ix_table_heavy.specs.Chunks.{AreChunks, IsOfOneCell};
 
 use s2id_core::OutOfMemory;
-use s2ix_bag_lists::{FlatHeld, HeldList};
+use s2ix_bag_held::{FlatHeld, HeldList};
 use std::alloc::Global;
 
 // How many pairs in front have the cell of the first one: at most `max_len`, and at least one.

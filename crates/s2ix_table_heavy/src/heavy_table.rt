@@ -11,7 +11,7 @@ ghost use Rattle.s2ix_table_heavy.specs.HeavyChains.{first_place, heavy_chain};
 use crate::heavy_place::HeavyPlace;
 use crate::marks::marks_of;
 use s2id_core::{CellId, LEAF_END, OutOfMemory};
-use s2ix_bag_lists::HeldList;
+use s2ix_bag_held::HeldList;
 use s2ix_bag_pairs::Held;
 use s2ix_table_spans::SpanTable;
 use std::alloc::Global;

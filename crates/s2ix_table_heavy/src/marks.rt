@@ -4,7 +4,7 @@ ghost use Rattle.s2ix_bag_lists.specs.Faces.{all_of};
 ghost use Rattle.s2ix_table_heavy.specs.Chunks.{AreChunks, AreMarks, IsMark, IsOfOneCell};
 
 use s2id_core::OutOfMemory;
-use s2ix_bag_lists::{FlatHeld, HeldList};
+use s2ix_bag_held::{FlatHeld, HeldList};
 use s2ix_bag_pairs::{Held, Label, Pair};
 use std::alloc::Global;
 

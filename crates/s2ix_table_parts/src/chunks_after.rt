@@ -8,7 +8,8 @@ ghost use Rattle.s2ix_bag_pairs.specs.Pair.{rank_of};
 ghost use Rattle.s2ix_table_heavy.specs.Chunks.{AreChunks, IsOfOneCell};
 
 use s2id_core::OutOfMemory;
-use s2ix_bag_lists::{FlatHeld, HeldList, merge};
+use s2ix_bag_held::{FlatHeld, HeldList};
+use s2ix_bag_lists::merge;
 use s2ix_bag_pairs::{Entry, Pair};
 use s2ix_table_heavy::cut_into_chunks;
 use std::alloc::Global;

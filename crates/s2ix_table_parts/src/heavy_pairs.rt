@@ -11,7 +11,7 @@ ghost use Rattle.s2ix_table_heavy.specs.Chunks.{AreChunks};
 ghost use Rattle.s2ix_table_heavy.specs.HeavyChains.{heavy_chain};
 
 use s2id_core::{CellId, LEAF_END, OutOfMemory};
-use s2ix_bag_lists::HeldList;
+use s2ix_bag_held::HeldList;
 use s2ix_bag_pairs::{Entry, Held};
 use s2ix_table_heavy::laws::chunks_are_in_order;
 use s2ix_table_heavy::{ChangedChunk, HeavyPlace, HeavyTable};

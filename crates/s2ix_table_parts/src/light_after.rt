@@ -15,7 +15,8 @@ use crate::new_parts::NewFace;
 use crate::part::Part;
 use crate::parts_changed::last_by;
 use s2id_core::{FACE_NUMBERS, OutOfMemory};
-use s2ix_bag_lists::{FlatHeld, merge};
+use s2ix_bag_held::FlatHeld;
+use s2ix_bag_lists::merge;
 use s2ix_bag_pairs::Entry;
 use std::alloc::Global;
 

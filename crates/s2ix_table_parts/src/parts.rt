@@ -8,7 +8,7 @@ ghost use Rattle.s2ix_table_parts.specs.Neighbours.{AreNeighbours, held_in};
 ghost use Rattle.s2ix_table_parts.specs.Parts.{AreSeams, BeginsFrom, EndsBy};
 
 use s2id_core::OutOfMemory;
-use s2ix_bag_lists::{FlatHeld, HeldList};
+use s2ix_bag_held::{FlatHeld, HeldList};
 use s2ix_table_spans::SpanTable;
 use std::alloc::Global;
 use std::sync::Arc;

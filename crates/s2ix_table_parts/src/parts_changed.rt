@@ -13,7 +13,7 @@ use crate::new_parts::NewParts;
 use crate::part::{Part, share_under};
 use crate::parts::{in_one_list, next_cut, parts_over, seams_before};
 use s2id_core::OutOfMemory;
-use s2ix_bag_lists::{FlatHeld, HeldList};
+use s2ix_bag_held::{FlatHeld, HeldList};
 use s2ix_bag_pairs::Entry;
 use s2ix_table_spans::SpanTable;
 use std::alloc::Global;

@@ -9,7 +9,7 @@ ghost use Rattle.s2ix_table_parts.specs.Split.{AreSplit, HaveLesserCells, IsRunA
 
 use crate::chunks_after::put_chunks;
 use s2id_core::OutOfMemory;
-use s2ix_bag_lists::{FlatHeld, HeldList};
+use s2ix_bag_held::{FlatHeld, HeldList};
 use std::alloc::Global;
 
 // The pairs of a face in two layers: light pairs in rising order, and heavy pairs in chunks. All pairs of a cell are in one layer.

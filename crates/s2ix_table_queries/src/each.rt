@@ -14,7 +14,7 @@ use crate::leaf_contents::LeafContents;
 use crate::of_held::OfHeld;
 use crate::table::RangeTable;
 use s2id_core::CellId;
-use s2ix_bag_lists::FlatHeld;
+use s2ix_bag_held::FlatHeld;
 
 /// How far [`at_each`] came.
 #[derive(Clone, Copy, Debug, PartialEq, Eq)]

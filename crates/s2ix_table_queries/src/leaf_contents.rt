@@ -1,7 +1,7 @@
 ghost use Rattle.std.specs.Prelude.{◌≤◌, ◌<◌, IsTrue};
 
 use crate::hint::LeafHint;
-use s2ix_bag_lists::FlatHeld;
+use s2ix_bag_held::FlatHeld;
 
 /// What lies over each leaf of a span, innermost first: a chain in lists, from the pair at the place `innermost` on, and then the chain from
 /// the place `rest` of the table.

@@ -6,7 +6,7 @@ ghost use Rattle.s2ix_bag_pairs.specs.declared.pair.Held.{Held};
 ghost use Rattle.s2ix_table_spans.specs.Blocks.{AreWithin, IsBeside, IsExchange, moved, placed};
 
 use s2id_core::CellId;
-use s2ix_bag_lists::FlatHeld;
+use s2ix_bag_held::FlatHeld;
 
 // The pairs within a cell: `old` of a table's `count` pairs, from the place `start` on, and `new` ones that are to stand there.
 #[derive(Clone, Copy)]

@@ -7,7 +7,7 @@ ghost use Rattle.s2ix_table_spans.specs.SpanTable.{IsInSpan};
 use crate::order::sweep_order;
 use crate::sweep::sweep_span;
 use s2id_core::OutOfMemory;
-use s2ix_bag_lists::FlatHeld;
+use s2ix_bag_held::FlatHeld;
 use std::alloc::Global;
 
 // Where each pair leads outwards, the starts of the ranges, and beside each start the place of its innermost pair.

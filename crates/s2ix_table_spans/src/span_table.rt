@@ -15,7 +15,7 @@ use crate::places::{last_ahead, last_of_sampled, last_start};
 use crate::sample::sample_of;
 use crate::splice::Before;
 use s2id_core::{CellId, OutOfMemory};
-use s2ix_bag_lists::{FlatHeld, HeldList};
+use s2ix_bag_held::{FlatHeld, HeldList};
 use s2ix_bag_pairs::Held;
 use s2ix_table_walk::RangeRow;
 use std::alloc::Global;

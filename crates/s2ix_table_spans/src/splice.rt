@@ -11,7 +11,7 @@ use crate::block::{Block, Common, block_of, in_common};
 use crate::nodes::Nodes;
 use crate::places::last_start;
 use s2id_core::{CellId, OutOfMemory};
-use s2ix_bag_lists::FlatHeld;
+use s2ix_bag_held::FlatHeld;
 use std::alloc::Global;
 
 // What a table keeps of its pairs over the leaves from one number up to another.

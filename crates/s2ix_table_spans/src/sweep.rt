@@ -7,7 +7,7 @@ ghost use Rattle.s2ix_table_spans.specs.Sweep.{IsFresh, IsSwept, start_at, last_
 
 use crate::pass::{Frontier, Pass};
 use s2id_core::OutOfMemory;
-use s2ix_bag_lists::FlatHeld;
+use s2ix_bag_held::FlatHeld;
 use std::alloc::Global;
 
 // The sweep over the leaves from one number up to another, with room for what it writes.

@@ -19,7 +19,7 @@ use crate::push::push;
 use itoa::Buffer;
 use s2id_core::OutOfMemory;
 use s2ix_bag_changes::Bag;
-use s2ix_bag_lists::FlatHeld;
+use s2ix_bag_held::FlatHeld;
 use s2ix_bag_pairs::{Held, Limits};
 use s2ix_text_parts::{cut_line, first_part, three_parts};
 use s2ix_text_write::Version;

@@ -7,7 +7,7 @@ ghost use Rattle.s2ix_text.specs.PairLines.{IsCommonFront, IsCut, IsDumped, IsNe
 ghost use Rattle.s2ix_text_parts.specs.Written.{comes_before};
 
 use crate::dump_error::DumpFault;
-use s2ix_bag_lists::FlatHeld;
+use s2ix_bag_held::FlatHeld;
 use s2ix_bag_pairs::{Held, Label, Limits, Pair};
 use s2ix_text_parts::{
     cell_written, count_written, label_written, number_in_front, three_parts, token_in_front,

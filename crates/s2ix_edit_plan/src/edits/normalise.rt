@@ -8,7 +8,7 @@ use crate::errors::EditError;
 use crate::region::region_of;
 use s2id_core::{CellId, OutOfMemory};
 use s2ix_bag_changes::{Bag, Change, LabelIter};
-use s2ix_bag_lists::FlatHeld;
+use s2ix_bag_held::FlatHeld;
 use s2ix_bag_pairs::{Held, Label, Pair};
 use std::alloc::Global;
 

@@ -1,5 +1,0 @@
-use Rattle.std.proofs.Common.{rules}
-use Rattle.s2ix_bag_lists.proofs.flat.FlatHeld.count.Goals as goal
-
-pub returns : goal.returns
-returns c = search rules

@@ -1,5 +1,0 @@
-use Rattle.s2ix_bag_lists.proofs.LabelFilters.{ones_let}
-use Rattle.s2ix_bag_lists.proofs.label_filter.LabelFilter.all.Goals as goal
-
-pub returns : goal.returns
-returns c = ones_let

@@ -1,6 +1,0 @@
-use Rattle.std.proofs.Common.{take}
-use Rattle.s2ix_bag_lists.specs.LabelFilter.{LetsThroughAll}
-use Rattle.s2ix_bag_lists.proofs.label_filter.LabelFilter.of_pairs.Given as goal
-
-abbrev pub invariant-loop-held : goal.invariant-loop-held
-invariant-loop-held l = LetsThroughAll l.filter (take l.held-index l.held)
