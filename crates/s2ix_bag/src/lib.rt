@@ -21,5 +21,7 @@ pub use replay_error::ReplayError;
 pub use replaying::{replay, rewind};
 pub use s2ix_bag_changes::{Bag, Change, LabelIter};
 pub use s2ix_bag_held::{FlatHeld, HeldList};
-pub use s2ix_bag_lists::{ApplyError, ChangeError, HeldIter, HeldParts, RevertError};
+pub use s2ix_bag_lists::{
+    ApplyError, ChangeError, HeldIter, HeldParts, ListsView, RevertError, SharedLists,
+};
 pub use s2ix_bag_pairs::{Entry, Held, Label, Limits, Pair};

@@ -25,6 +25,14 @@ pub filled_append : (ps qs : List Collection) → AreFilled ps → AreFilled qs 
 filled_append [] qs ps_are qs_are = qs_are
 filled_append (p ∷ ps) qs ps_are qs_are = (ps_are.0, filled_append ps qs ps_are.1 qs_are)
 
+pub filled_front : (ps qs : List Collection) → AreFilled (ps ++ qs) → AreFilled ps
+filled_front [] qs are = tt
+filled_front (p ∷ ps) qs are = (are.0, filled_front ps qs are.1)
+
+pub filled_back : (ps qs : List Collection) → AreFilled (ps ++ qs) → AreFilled qs
+filled_back [] qs are = are
+filled_back (p ∷ ps) qs are = filled_back ps qs are.1
+
 pub filled_take : (i : ℕ) (ps : List Collection) → AreFilled ps → AreFilled (take i ps)
 filled_take zero ps are = tt
 filled_take (suc i) [] are = tt

@@ -18,3 +18,6 @@ pub mod Places
 pub mod Making
 pub mod Mismatches
 pub mod FaceParts
+pub mod Bundles
+pub mod Views
+pub mod Windows

@@ -1,10 +1,8 @@
 -- The running numbers of pairs before each part.
-use Rattle.std.proofs.Common.{◌≡◌, ℕ, zero, suc, ◌+◌, ◌<◌, ◌≤◌, List, [], ◌∷◌, ◌++◌, take, get_or, length, refl, sym, ap, ◌∙◌, arith, length-append}
-use Rattle.std.proofs.lemmas.List.{take_more}
+use Rattle.std.proofs.Common.{◌≡◌, ℕ, zero, suc, ◌+◌, ◌<◌, List, [], ◌∷◌, ◌++◌, take, get_or, length, refl, ap, ◌∙◌, arith, length-append}
 use Rattle.s2ix_bag_pairs.specs.Collection.{Collection}
 use Rattle.s2ix_bag_lists.specs.Faces.{all_of}
 use Rattle.s2ix_bag_lists.specs.Parts.{starts_from}
-use Rattle.s2ix_bag_lists.proofs.Joins.{all_push}
 
 pub starts_at : (m n : ℕ) (ps : List Collection) → m ≡ n → starts_from m ps ≡ starts_from n ps
 starts_at m n ps same = ap (λ (k : ℕ). starts_from k ps) same
@@ -28,26 +26,3 @@ get-starts n [] i d within = absurd (omega arith)
 get-starts n (p ∷ ps) zero d within = omega arith
 get-starts n (p ∷ ps) (suc i) d within =
     omega (arith, get-starts (n + length p) ps i d (omega arith), length-append p (all_of (take i ps)))
-
--- ---- one part more
-
-pub starts_more : (ps : List Collection) (i before : ℕ) (own : Collection) → i < length ps → own ≡ get_or ps i own
-    → before ≡ length (all_of (take i ps)) → starts_from 0 (take (i + 1) ps) ≡ starts_from 0 (take i ps) ++ before ∷ []
-starts_more ps i before own within is counted =
-    ap (λ (x : List Collection). starts_from 0 x) (take_more ps i own within)
-    ∙ starts_append 0 (take i ps) (get_or ps i own ∷ [])
-    ∙ ap (λ (k : ℕ). starts_from 0 (take i ps) ++ k ∷ []) (let same : 0 + length (all_of (take i ps)) ≡ before = omega arith in same)
-
-pub length_more : (ps : List Collection) (i : ℕ) (own : Collection) → i < length ps → own ≡ get_or ps i own
-    → length (all_of (take (i + 1) ps)) ≡ length (all_of (take i ps)) + length own
-length_more ps i own within is =
-    ap (λ (x : List Collection). length (all_of x)) (take_more ps i own within)
-    ∙ ap (λ (x : Collection). length x) (all_push (take i ps) (get_or ps i own))
-    ∙ length-append (all_of (take i ps)) (get_or ps i own)
-    ∙ ap (λ (x : Collection). length (all_of (take i ps)) + length x) (sym is)
-
-pub length_within : (ps : List Collection) (i : ℕ) → length (all_of (take i ps)) ≤ length (all_of ps)
-length_within ps zero = omega arith
-length_within [] (suc i) = omega arith
-length_within (p ∷ ps) (suc i) =
-    omega (arith, length_within ps i, length-append p (all_of (take i ps)), length-append p (all_of ps))

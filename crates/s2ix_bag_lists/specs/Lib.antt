@@ -13,3 +13,5 @@ pub use Rattle.s2ix_bag_pairs.specs.Ranges
 pub use Rattle.s2ix_bag_pairs.specs.TakenBack
 pub mod Faces
 pub mod Parts
+pub mod Bundles
+pub mod View

@@ -37,3 +37,14 @@ pub record AreEntriesUpTo (parts : List Collection) (place : ℕ) (es : List Ent
   pub back : IsCollectionFrom rank (all_of (drop (place + 1) parts))
   pub entries : AreEntriesBelow rank (take own es)
   pub later : IsChangeListFrom rank (drop own es)
+
+-- the parts from the number `first` on and before `end`: all entries fall into them, since ranks part them from the other parts
+pub record IsWindow (parts : List Collection) (es : List Entry) (first end : ℕ) : Type 0 where
+  pub some : first < end
+  pub within : end ≤ length parts
+  pub low : ℕ
+  pub high : ℕ
+  pub front : AreBelow low (all_of (take first parts))
+  pub back : IsCollectionFrom high (all_of (drop end parts))
+  pub entries_from : IsChangeListFrom low es
+  pub entries_below : AreEntriesBelow high es

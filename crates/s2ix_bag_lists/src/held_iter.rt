@@ -2,9 +2,11 @@ ghost use Rattle.std.specs.Prelude.{◌≡◌, ◌++◌, ◌<◌, ◌≤◌, [],
 ghost use Rattle.std.specs.Iterator.{YieldsFirst, item_count};
 ghost use Rattle.s2ix_bag_lists.specs.Faces.{all_of};
 ghost use Rattle.s2ix_bag_lists.specs.Parts.{AreFilled};
+ghost use Rattle.s2ix_bag_lists.specs.View.{held_from, lists_in};
 ghost use Rattle.s2ix_bag_pairs.specs.OfLabel.{held_of};
 
 use crate::held_parts::HeldParts;
+use crate::lists_view::ListsView;
 use s2ix_bag_held::{FlatHeld, HeldList};
 use s2ix_bag_pairs::{Held, Label};
 use std::marker::Model;
@@ -13,8 +15,10 @@ use std::marker::Model;
 #[derive(Clone, Debug, Drop)]
 pub struct HeldIter<'a> {
     rest: &'a [FlatHeld],
-    // the next parts of the list at hand
+    // the next parts of the bundle at hand
     parts: &'a [HeldList],
+    // the parts behind them of the list at hand
+    bundles: ListsView<'a>,
     later: &'a [HeldParts],
 }
 
@@ -22,13 +26,14 @@ impl<'a> Model for HeldIter<'a> {
     ghost use Rattle.std.specs.Prelude.{◌++◌};
     ghost use Rattle.s2ix_bag_lists.specs.Faces.{all_of};
     ghost use Rattle.s2ix_bag_lists.specs.Parts.{AreFilled};
+    ghost use Rattle.s2ix_bag_lists.specs.View.{held_from, lists_in};
     ghost use Rattle.s2ix_bag_pairs.specs.Collection.{Collection};
 
     ghost Value = { Collection };
 
-    ghost view = { λ s. s.rest.now ++ (all_of s.parts.now ++ all_of s.later.now) };
+    ghost view = { λ s. s.rest.now ++ (all_of s.parts.now ++ held_from s.bundles s.later.now) };
 
-    ghost invariant = { λ s. AreFilled s.parts.now };
+    ghost invariant = { λ s. AreFilled s.parts.now × AreFilled (lists_in s.bundles) };
 }
 
 impl<'a> HeldIter<'a> {
@@ -39,6 +44,7 @@ impl<'a> HeldIter<'a> {
         HeldIter {
             rest: &[],
             parts: &[],
+            bundles: ListsView::none(),
             later: lists,
         }
     }
@@ -53,7 +59,7 @@ impl<'a> HeldIter<'a> {
             if found.is_some() {
                 return found;
             }
-            self.rest = next_pairs_with(label, &mut self.parts, &mut self.later);
+            self.rest = next_pairs_with(label, &mut self.parts, &mut self.bundles, &mut self.later);
             if self.rest.is_empty() {
                 return None;
             }
@@ -61,20 +67,47 @@ impl<'a> HeldIter<'a> {
     }
 }
 
-// The next part, taken from those of the list at hand or of the next list that has one.
-fn next_part<'a>(parts: &mut &'a [HeldList], later: &mut &'a [HeldParts]) -> Option<&'a HeldList>
-    requires { AreFilled parts.old.now }
-    ensures next { IfSome result (λ part. all_of parts.old.now ++ all_of later.old.now
-        ≡ part.now ++ (all_of parts.new.now ++ all_of later.new.now)) }
-    ensures some { IfSome result (λ part. 0 < length part.now) }
-    ensures filled { AreFilled parts.new.now }
-    ensures none { result ≡ None → all_of parts.old.now ++ all_of later.old.now ≡ [] }
-    ensures last { result ≡ None → all_of parts.new.now ++ all_of later.new.now ≡ [] }
+// The parts of the next bundle, taken from those of the list at hand or of the next list that has one.
+fn next_bundle<'a>(
+    bundles: &mut ListsView<'a>,
+    later: &mut &'a [HeldParts],
+) -> Option<&'a [HeldList]>
+    requires { AreFilled (lists_in bundles.old) }
+    ensures next { IfSome result (λ parts. held_from bundles.old later.old.now ≡ all_of parts.now ++ held_from bundles.new later.new.now) }
+    ensures some { IfSome result (λ parts. 0 < length parts.now) }
+    ensures parts_filled { IfSome result (λ parts. AreFilled parts.now) }
+    ensures filled { AreFilled (lists_in bundles.new) }
+    ensures none { result ≡ None → held_from bundles.old later.old.now ≡ [] }
+    ensures last { result ≡ None → held_from bundles.new later.new.now ≡ [] }
 {
-    while parts.is_empty() {
+    while bundles.len() == 0 {
         let (list, lists) = later.split_first()?;
-        *parts = list.parts();
+        *bundles = list.parts();
         *later = lists;
+    }
+    let (parts, others) = bundles.split_bundle()?;
+    *bundles = others;
+    Some(parts)
+}
+
+// The next part, taken from those of the list at hand or of the next list that has one.
+fn next_part<'a>(
+    parts: &mut &'a [HeldList],
+    bundles: &mut ListsView<'a>,
+    later: &mut &'a [HeldParts],
+) -> Option<&'a HeldList>
+    requires parts_filled { AreFilled parts.old.now }
+    requires filled { AreFilled (lists_in bundles.old) }
+    ensures next { IfSome result (λ part. all_of parts.old.now ++ held_from bundles.old later.old.now
+        ≡ part.now ++ (all_of parts.new.now ++ held_from bundles.new later.new.now)) }
+    ensures some { IfSome result (λ part. 0 < length part.now) }
+    ensures parts_filled { AreFilled parts.new.now }
+    ensures filled { AreFilled (lists_in bundles.new) }
+    ensures none { result ≡ None → all_of parts.old.now ++ held_from bundles.old later.old.now ≡ [] }
+    ensures last { result ≡ None → all_of parts.new.now ++ held_from bundles.new later.new.now ≡ [] }
+{
+    if parts.is_empty() {
+        *parts = next_bundle(bundles, later)?;
     }
     let (part, others) = parts.split_first()?;
     *parts = others;
@@ -83,13 +116,19 @@ fn next_part<'a>(parts: &mut &'a [HeldList], later: &mut &'a [HeldParts]) -> Opt
 
 // The pairs of the next part; no pairs if there is none.
 #[inline(never)]
-fn next_pairs<'a>(parts: &mut &'a [HeldList], later: &mut &'a [HeldParts]) -> &'a [FlatHeld]
-    requires { AreFilled parts.old.now }
-    ensures whole { result.now ++ (all_of parts.new.now ++ all_of later.new.now) ≡ all_of parts.old.now ++ all_of later.old.now }
-    ensures filled { AreFilled parts.new.now }
-    ensures last { result.now ≡ [] → all_of parts.new.now ++ all_of later.new.now ≡ [] }
+fn next_pairs<'a>(
+    parts: &mut &'a [HeldList],
+    bundles: &mut ListsView<'a>,
+    later: &mut &'a [HeldParts],
+) -> &'a [FlatHeld]
+    requires parts_filled { AreFilled parts.old.now }
+    requires filled { AreFilled (lists_in bundles.old) }
+    ensures whole { result.now ++ (all_of parts.new.now ++ held_from bundles.new later.new.now) ≡ all_of parts.old.now ++ held_from bundles.old later.old.now }
+    ensures parts_filled { AreFilled parts.new.now }
+    ensures filled { AreFilled (lists_in bundles.new) }
+    ensures last { result.now ≡ [] → all_of parts.new.now ++ held_from bundles.new later.new.now ≡ [] }
 {
-    match next_part(parts, later) {
+    match next_part(parts, bundles, later) {
         Some(part) => part.as_slice(),
         None => &[],
     }
@@ -99,17 +138,20 @@ fn next_pairs<'a>(parts: &mut &'a [HeldList], later: &mut &'a [HeldParts]) -> &'
 fn next_pairs_with<'a>(
     label: Label,
     parts: &mut &'a [HeldList],
+    bundles: &mut ListsView<'a>,
     later: &mut &'a [HeldParts],
 ) -> &'a [FlatHeld]
-    requires { AreFilled parts.old.now }
-    ensures whole { held_of label (result.now ++ (all_of parts.new.now ++ all_of later.new.now))
-        ≡ held_of label (all_of parts.old.now ++ all_of later.old.now) }
-    ensures filled { AreFilled parts.new.now }
-    ensures last { result.now ≡ [] → all_of parts.new.now ++ all_of later.new.now ≡ [] }
-    ensures shorter { length (result.now ++ (all_of parts.new.now ++ all_of later.new.now))
-        ≤ length (all_of parts.old.now ++ all_of later.old.now) }
+    requires parts_filled { AreFilled parts.old.now }
+    requires filled { AreFilled (lists_in bundles.old) }
+    ensures whole { held_of label (result.now ++ (all_of parts.new.now ++ held_from bundles.new later.new.now))
+        ≡ held_of label (all_of parts.old.now ++ held_from bundles.old later.old.now) }
+    ensures parts_filled { AreFilled parts.new.now }
+    ensures filled { AreFilled (lists_in bundles.new) }
+    ensures last { result.now ≡ [] → all_of parts.new.now ++ held_from bundles.new later.new.now ≡ [] }
+    ensures shorter { length (result.now ++ (all_of parts.new.now ++ held_from bundles.new later.new.now))
+        ≤ length (all_of parts.old.now ++ held_from bundles.old later.old.now) }
 {
-    while let Some(part) = next_part(parts, later) {
+    while let Some(part) = next_part(parts, bundles, later) {
         if part.may_have(label) {
             return part.as_slice();
         }
@@ -142,7 +184,7 @@ impl<'a> Iterator for HeldIter<'a> {
     #[inline]
     fn next(&mut self) -> Option<Held> {
         if self.rest.is_empty() {
-            self.rest = next_pairs(&mut self.parts, &mut self.later);
+            self.rest = next_pairs(&mut self.parts, &mut self.bundles, &mut self.later);
         }
         let (first, rest) = self.rest.split_first()?;
         self.rest = rest;

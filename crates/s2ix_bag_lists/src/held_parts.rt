@@ -2,14 +2,16 @@ ghost use Rattle.std.specs.Prelude.{◌≡◌, ◌==◌, ◌++◌, ◌<◌, ◌�
 ghost use Rattle.s2ix_bag_lists.specs.Apply.{AreBefore};
 ghost use Rattle.s2ix_bag_lists.specs.Faces.{all_of};
 ghost use Rattle.s2ix_bag_lists.specs.Parts.{AreFilled, IsPartAt};
+ghost use Rattle.s2ix_bag_lists.specs.View.{lists_in};
 ghost use Rattle.s2ix_bag_pairs.specs.Change.{IsChangeList, changed};
 ghost use Rattle.s2ix_bag_pairs.specs.Collection.{IsCollection, count_in};
 
 use crate::apply::{first_mismatch, merge};
 use crate::cut::{cut, pieces};
+use crate::lists_view::ListsView;
 use crate::part_list::PartList;
-use crate::parts_after::parts_after;
 use crate::parts_mismatch::mismatch_in_parts;
+use crate::shared_lists::SharedLists;
 use s2id_core::OutOfMemory;
 use s2ix_bag_held::{FlatHeld, HeldList};
 use s2ix_bag_pairs::{Entry, Held, Pair};
@@ -21,7 +23,7 @@ use std::sync::Arc;
 pub(crate) const MAX_PART_LEN: usize = 512;
 
 /// Held pairs, mostly those of one face, at most 1,000,000, in parts. A change copies the parts on which it has entries, and shares the
-/// others. Contracts see the one list that the parts make up, in rising order. A list without pairs does not allocate.
+/// others, most of them in bundles. Contracts see the one list that the parts make up, in rising order. A list without pairs does not allocate.
 #[derive(Debug, Drop)]
 pub struct HeldParts {
     shared: Option<Arc<PartList>>,
@@ -104,7 +106,22 @@ impl HeldParts {
         requires within_limit { length (all_of parts.items) ≤ 1000000 }
         ensures { IfOk result (λ list. list ≡ all_of parts.items) }
     {
-        if parts.is_empty() {
+        let shared = SharedLists::new(alloc, parts)?;
+        HeldParts::from_shared(alloc, shared, max_part_len)
+    }
+
+    // The same of parts that may be shared.
+    fn from_shared(
+        alloc: Global,
+        parts: SharedLists,
+        max_part_len: usize,
+    ) -> Result<HeldParts, OutOfMemory>
+        requires rises { IsCollection (all_of parts) }
+        requires filled { AreFilled parts }
+        requires within_limit { length (all_of parts) ≤ 1000000 }
+        ensures { IfOk result (λ list. list ≡ all_of parts) }
+    {
+        if parts.len() == 0 {
             return Ok(HeldParts::in_parts_of(max_part_len));
         }
         let shared = Arc::new(alloc, PartList::new(alloc, parts)?)?;
@@ -132,14 +149,14 @@ impl HeldParts {
     }
 
     /// The parts, in rising order of their pairs; none is empty. O(1).
-    pub fn parts(&self) -> &[HeldList]
-        ensures list { all_of result.now ≡ self.now }
-        ensures filled { AreFilled result.now }
+    pub fn parts(&self) -> ListsView<'_>
+        ensures list { all_of (lists_in result) ≡ self.now }
+        ensures filled { AreFilled (lists_in result) }
         ensures rises { IsCollection self.now }
     {
         match &self.shared {
             Some(shared) => shared.parts(),
-            None => &[],
+            None => ListsView::none(),
         }
     }
 
@@ -180,7 +197,7 @@ impl HeldParts {
         ensures { result ≡ position (λ e. not (e.before == count_in self.now e.pair)) entries.now }
     {
         let parts = self.parts();
-        if parts.is_empty() {
+        if parts.len() == 0 {
             first_mismatch(&[], entries)
         } else {
             mismatch_in_parts(parts, entries)
@@ -196,8 +213,9 @@ impl HeldParts {
         Ok(all)
     }
 
-    /// What a change that has the right counts before makes of the pairs. Without an entry the list is shared, else its parts without an
-    /// entry are: O(p + m + k) for p parts, m entries and the k pairs of their parts. `OutOfMemory` if a growth is refused.
+    /// What a change that has the right counts before makes of the pairs. Without an entry the list is shared, else its parts without an entry
+    /// are. O(p + m + k) for p parts, m entries and the k pairs of their parts; but it counts one more user only of each bundle of parts, and
+    /// of the parts from the first entry's to the last entry's, with those in the same bundles. `OutOfMemory` if a growth is refused.
     pub fn after(&self, alloc: Global, entries: &[Entry]) -> Result<HeldParts, OutOfMemory>
         requires entries_rise { IsChangeList entries.now }
         requires before { AreBefore self.now entries.now }
@@ -207,33 +225,27 @@ impl HeldParts {
         if entries.is_empty() {
             return Ok(self.clone()?);
         }
-        let parts = self.changed_parts(alloc, entries)?;
-        HeldParts::from_parts(alloc, parts, self.max_part_len)
-    }
-
-    // What a change that has the right counts before makes of the parts.
-    fn changed_parts(&self, alloc: Global, entries: &[Entry]) -> Result<Vec<HeldList>, OutOfMemory>
-        requires entries_rise { IsChangeList entries.now }
-        requires before { AreBefore self.now entries.now }
-        ensures made { IfOk result (λ parts. all_of parts.items ≡ changed self.now entries.now) }
-        ensures filled { IfOk result (λ parts. AreFilled parts.items) }
-        ensures rises { IsCollection self.now }
-    {
-        let parts = self.parts();
-        if parts.is_empty() {
-            pieces(alloc, merge(alloc, &[], entries)?, self.max_part_len)
-        } else {
-            parts_after(alloc, parts, entries, self.max_part_len)
+        match &self.shared {
+            Some(shared) => {
+                let parts = shared.after(alloc, entries, self.max_part_len)?;
+                HeldParts::from_shared(alloc, parts, self.max_part_len)
+            }
+            None => {
+                let held = merge(alloc, &[], entries)?;
+                HeldParts::new_in_parts_of(alloc, held, self.max_part_len)
+            }
         }
     }
 }
 
 /// Appends the pairs of all parts.
-pub(crate) fn append_parts(all: &mut Vec<FlatHeld>, parts: &[HeldList]) -> Result<(), OutOfMemory>
-    ensures { OnOk result (all.new.items ≡ all.old.items ++ all_of parts.now) }
+pub(crate) fn append_parts(all: &mut Vec<FlatHeld>, parts: ListsView<'_>) -> Result<(), OutOfMemory>
+    ensures { OnOk result (all.new.items ≡ all.old.items ++ all_of (lists_in parts.entry)) }
 {
-    for part in parts {
+    let mut rest = parts;
+    while let Some((part, later)) = rest.split_first() {
         all.extend_from_slice(part.as_slice())?;
+        rest = later;
     }
     Ok(())
 }

@@ -2,27 +2,30 @@
 ghost use Rattle.std.specs.Prelude.{◌≡◌, ◌+◌, ◌<◌, ◌≤◌, length, take, drop, slice_index};
 ghost use Rattle.s2ix_bag_lists.specs.Faces.{AreEntriesBelow, all_of};
 ghost use Rattle.s2ix_bag_lists.specs.Parts.{AreFilled, AreEntriesUpTo};
+ghost use Rattle.s2ix_bag_lists.specs.View.{lists_in};
 ghost use Rattle.s2ix_bag_pairs.specs.Change.{IsChangeList, IsChangeListFrom};
 ghost use Rattle.s2ix_bag_pairs.specs.Collection.{IsCollection, IsCollectionFrom, AreBelow};
 ghost use Rattle.s2ix_bag_pairs.specs.Pair.{rank_of};
 
-use s2ix_bag_held::HeldList;
+use crate::lists_view::ListsView;
 use s2ix_bag_pairs::{Entry, Pair};
 
-// The part that a pair is in, or would go into. O(log p) for p parts.
-pub(crate) fn part_of(parts: &[HeldList], pair: Pair) -> usize
-    requires rises { IsCollection (all_of parts.now) }
-    requires filled { AreFilled parts.now }
-    requires some { 0 < length parts.now }
-    ensures within { result < length parts.now }
-    ensures below { AreBelow (rank_of pair) (all_of (take result parts.now)) }
-    ensures rest { IsCollectionFrom (rank_of pair + 1) (all_of (drop (result + 1) parts.now)) }
+// The part that a pair is in, or would go into. O(log p * log b) for p parts in b bundles.
+pub(crate) fn part_of(parts: ListsView<'_>, pair: Pair) -> usize
+    requires rises { IsCollection (all_of (lists_in parts)) }
+    requires filled { AreFilled (lists_in parts) }
+    requires some { 0 < length (lists_in parts) }
+    ensures within { result < length (lists_in parts.entry) }
+    ensures within_limit { result < 1000000 }
+    ensures below { AreBelow (rank_of pair) (all_of (take result (lists_in parts.entry))) }
+    ensures rest { IsCollectionFrom (rank_of pair + 1) (all_of (drop (result + 1) (lists_in parts.entry))) }
 {
     let mut low = 0;
     let mut high = parts.len();
     while high - low > 1 {
         let middle = low + (high - low) / 2;
-        if pair.is_before(parts[middle].at(0).pair) {
+        let part = parts.at(middle);
+        if pair.is_before(part.at(0).pair) {
             high = middle;
         } else {
             low = middle;
@@ -67,18 +70,19 @@ fn entries_before(entries: &[Entry], pair: Pair) -> usize
 }
 
 // How many entries come before the part after the one at a place. O(k) for the answer k.
-pub(crate) fn entries_up_to_part(parts: &[HeldList], place: usize, entries: &[Entry]) -> usize
-    requires rises { IsCollection (all_of parts.now) }
-    requires filled { AreFilled parts.now }
-    requires place { place < length parts.now }
+pub(crate) fn entries_up_to_part(parts: ListsView<'_>, place: usize, entries: &[Entry]) -> usize
+    requires rises { IsCollection (all_of (lists_in parts)) }
+    requires filled { AreFilled (lists_in parts) }
+    requires place { place < length (lists_in parts) }
     requires entries_rise { IsChangeList entries.now }
     ensures within { result ≤ length entries.now }
-    ensures last { place + 1 ≡ length parts.now → result ≡ length entries.now }
-    ensures cut { AreEntriesUpTo parts.now place entries.now result }
+    ensures last { place + 1 ≡ length (lists_in parts.entry) → result ≡ length entries.now }
+    ensures cut { AreEntriesUpTo (lists_in parts.entry) place entries.now result }
 {
     let next = place + 1;
     if next < parts.len() {
-        entries_before(entries, parts[next].at(0).pair)
+        let part = parts.at(next);
+        entries_before(entries, part.at(0).pair)
     } else {
         entries.len()
     }

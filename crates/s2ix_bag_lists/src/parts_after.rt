@@ -3,11 +3,13 @@ ghost use Rattle.std.specs.Prelude.{◌≡◌, ◌<◌, ◌++◌, length, OnOk, 
 ghost use Rattle.s2ix_bag_lists.specs.Apply.{AreBefore};
 ghost use Rattle.s2ix_bag_lists.specs.Faces.{all_of};
 ghost use Rattle.s2ix_bag_lists.specs.Parts.{AreFilled};
+ghost use Rattle.s2ix_bag_lists.specs.View.{lists_in};
 ghost use Rattle.s2ix_bag_pairs.specs.Change.{IsChangeList, changed};
 ghost use Rattle.s2ix_bag_pairs.specs.Collection.{IsCollection};
 
 use crate::apply::merge;
 use crate::cut::cut;
+use crate::lists_view::ListsView;
 use crate::part_search::{entries_up_to_part, part_of};
 use s2id_core::OutOfMemory;
 use s2ix_bag_held::HeldList;
@@ -73,6 +75,26 @@ fn add_all(
     Ok(())
 }
 
+// The same of some of the parts of a list.
+fn add_lists(
+    alloc: Global,
+    out: &mut Vec<HeldList>,
+    parts: ListsView<'_>,
+    max_part_len: usize,
+) -> Result<(), OutOfMemory>
+    requires filled { AreFilled out.old.items }
+    requires some { AreFilled (lists_in parts) }
+    ensures made { OnOk result (all_of out.new.items ≡ all_of out.old.items ++ all_of (lists_in parts.entry)) }
+    ensures filled { OnOk result (AreFilled out.new.items) }
+{
+    let mut rest = parts;
+    while let Some((part, later)) = rest.split_first() {
+        add(alloc, out, part, max_part_len)?;
+        rest = later;
+    }
+    Ok(())
+}
+
 // Appends what entries that have the right counts before make of a part: in pieces if it is too long for one then.
 fn add_changed(
     alloc: Global,
@@ -101,30 +123,30 @@ fn add_changed(
 /// have become small. `OutOfMemory` if a growth is refused.
 pub(crate) fn parts_after(
     alloc: Global,
-    parts: &[HeldList],
+    parts: ListsView<'_>,
     entries: &[Entry],
     max_part_len: usize,
 ) -> Result<Vec<HeldList>, OutOfMemory>
-    requires rises { IsCollection (all_of parts.now) }
-    requires filled { AreFilled parts.now }
-    requires some { 0 < length parts.now }
+    requires rises { IsCollection (all_of (lists_in parts)) }
+    requires filled { AreFilled (lists_in parts) }
+    requires some { 0 < length (lists_in parts) }
     requires entries_rise { IsChangeList entries.now }
-    requires before { AreBefore (all_of parts.now) entries.now }
-    ensures made { IfOk result (λ after. all_of after.items ≡ changed (all_of parts.now) entries.now) }
+    requires before { AreBefore (all_of (lists_in parts)) entries.now }
+    ensures made { IfOk result (λ after. all_of after.items ≡ changed (all_of (lists_in parts.entry)) entries.now) }
     ensures filled { IfOk result (λ after. AreFilled after.items) }
 {
-    let mut after = Vec::with_capacity(alloc, parts.len() + 1)?;
+    let mut after = Vec::with_capacity(alloc, parts.len().saturating_add(1))?;
     let mut ahead = parts;
     let mut rest = entries;
     while let Some(first) = rest.first() {
         let place = part_of(ahead, first.pair);
         let (front, _) = ahead.split_at(place);
-        add_all(alloc, &mut after, front, max_part_len)?;
+        add_lists(alloc, &mut after, front, max_part_len)?;
         let (own, later) = rest.split_at(entries_up_to_part(ahead, place, rest));
-        add_changed(alloc, &mut after, &ahead[place], own, max_part_len)?;
+        add_changed(alloc, &mut after, ahead.at(place), own, max_part_len)?;
         rest = later;
         (_, ahead) = ahead.split_at(place + 1);
     }
-    add_all(alloc, &mut after, ahead, max_part_len)?;
+    add_lists(alloc, &mut after, ahead, max_part_len)?;
     Ok(after)
 }

@@ -36,10 +36,8 @@ fn has_label(bag: &Bag, label: &str, pairs: &str) -> bool {
 
 // Whether a list has these pairs, in one part.
 fn is_one_part(list: &HeldParts, pairs: &str) -> bool {
-    match list.parts() {
-        [part] => are_flat_pairs(part.as_slice(), pairs),
-        _ => false,
-    }
+    let parts = list.parts();
+    parts.len() == 1 && are_flat_pairs(parts.at(0).as_slice(), pairs)
 }
 
 // Whether these pairs are those of the face at a place, and so many stand before them.

@@ -96,8 +96,8 @@ fn lists_in_short_parts_are_lists(rt: HostRuntime) {
     check_edits(&rt, rt.alloc(), &parts, &plain);
 }
 
-// The bag of a cell under so many labels, made by one change.
-fn bag_of_labels(alloc: Global, count: u32) -> Option<Bag> {
+// The change that puts a cell under so many labels.
+fn change_to_labels(alloc: Global, count: u32) -> Option<Change> {
     let cell = pair_of("04:0")?.cell;
     let mut entries = Vec::new(alloc);
     for k in 0..count {
@@ -109,7 +109,43 @@ fn bag_of_labels(alloc: Global, count: u32) -> Option<Bag> {
         };
         entries.push(entry).ok()?;
     }
-    let change = Change::from_entries(alloc, &entries).ok()?;
+    Change::from_entries(alloc, &entries).ok()
+}
+
+// Makes the same changes of both bags, which hold no pair: first so many that there are several bundles of parts, then single ones all over
+// them, and at last one that leaves nothing.
+fn check_bundles(rt: &impl Abort, alloc: Global, parts: &Bag, plain: &Bag) {
+    let cell = pair_of("04:0").expect(rt, SET_UP).cell;
+    let all = change_to_labels(alloc, 1000).expect(rt, SET_UP);
+    let mut here = parts.applied(alloc, &all).expect(rt, SET_UP);
+    let mut there = plain.applied(alloc, &all).expect(rt, SET_UP);
+    let mut seed = 88_172_645_463_325_252u64;
+    for _ in 0..80u32 {
+        seed = next_number(seed);
+        let label = Label::new((seed % 1100) as u32).expect(rt, SET_UP);
+        let after = (seed >> 32) as u32 % 2;
+        if let Some(change) = change_of_pair(alloc, &there, Pair { cell, label }, after) {
+            here = here.applied(alloc, &change).expect(rt, SET_UP);
+            there = there.applied(alloc, &change).expect(rt, SET_UP);
+            assert!(rt; are_same(&here, &there) && has_parts_of(&here, 4));
+        }
+    }
+    let back = Change::between(alloc, &there, plain).expect(rt, SET_UP);
+    let none = here.applied(alloc, &back).expect(rt, SET_UP);
+    assert!(rt; are_same(&none, plain));
+}
+
+#[test]
+fn lists_in_many_bundles_are_lists(rt: HostRuntime) {
+    let limits = limits_of(WIDEST).expect(&rt, SET_UP);
+    let parts = Bag::in_parts_of(limits, 4);
+    let plain = Bag::empty(rt.alloc(), limits);
+    check_bundles(&rt, rt.alloc(), &parts, &plain);
+}
+
+// The bag of a cell under so many labels, made by one change.
+fn bag_of_labels(alloc: Global, count: u32) -> Option<Bag> {
+    let change = change_to_labels(alloc, count)?;
     Bag::empty(alloc, limits_of(WIDEST)?)
         .applied(alloc, &change)
         .ok()

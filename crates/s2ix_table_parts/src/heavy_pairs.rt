@@ -142,11 +142,7 @@ impl HeavyPairs {
 
     /// Puts a changed chunk into its place. O(1) if no copy shares the pairs, else O(c) for c chunks. `OutOfMemory` if a growth is refused, or
     /// a chunk is shared too often: then all pairs stay.
-    pub fn put_chunk(
-        &mut self,
-        alloc: Global,
-        chunk: ChangedChunk,
-    ) -> Result<(), OutOfMemory>
+    pub fn put_chunk(&mut self, alloc: Global, chunk: ChangedChunk) -> Result<(), OutOfMemory>
         requires { FitsChunk self.old chunk.number chunk.held }
         ensures put { OnOk result (self.new ≡ set self.old chunk.number chunk.held) }
         ensures stay { OnErr result (self.new ≡ self.old) }

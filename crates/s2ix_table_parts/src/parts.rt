@@ -1,6 +1,7 @@
 //! The parts of a table: tables over neighbouring spans. No cell goes over a seam between two of them.
 ghost use Rattle.std.specs.Prelude.{◌≡◌, ◌≤◌, ◌%◌, IfOk, length, take, slice_index_or};
 ghost use Rattle.s2ix_bag_lists.specs.Faces.{all_of};
+ghost use Rattle.s2ix_bag_lists.specs.View.{lists_in};
 ghost use Rattle.s2ix_bag_pairs.specs.Collection.{IsCollection};
 ghost use Rattle.s2ix_table_spans.specs.SpanTable.{IsInSpan, IsSpanTable};
 ghost use Rattle.s2ix_table_parts.specs.FaceSpans.{tables_of};
@@ -9,6 +10,7 @@ ghost use Rattle.s2ix_table_parts.specs.Parts.{AreSeams, BeginsFrom, EndsBy};
 
 use s2id_core::OutOfMemory;
 use s2ix_bag_held::{FlatHeld, HeldList};
+use s2ix_bag_lists::ListsView;
 use s2ix_table_spans::SpanTable;
 use std::alloc::Global;
 use std::sync::Arc;
@@ -19,15 +21,15 @@ use std::sync::Arc;
 /// the bench shows it. O(n) for n pairs. `OutOfMemory` if a growth is refused.
 pub fn parts_over(
     alloc: Global,
-    held: &[HeldList],
+    held: ListsView<'_>,
     from: u64,
     to: u64,
 ) -> Result<Vec<Arc<SpanTable>>, OutOfMemory>
-    requires rises { IsCollection (all_of held.now) }
-    requires within_limit { length (all_of held.now) ≤ 1000000 }
-    requires span { IsInSpan (all_of held.now) from to }
+    requires rises { IsCollection (all_of (lists_in held)) }
+    requires within_limit { length (all_of (lists_in held)) ≤ 1000000 }
+    requires span { IsInSpan (all_of (lists_in held)) from to }
     ensures neighbours { IfOk result (λ parts. AreNeighbours from (tables_of parts.items) to) }
-    ensures pairs { IfOk result (λ parts. held_in (tables_of parts.items) ≡ all_of held.now) }
+    ensures pairs { IfOk result (λ parts. held_in (tables_of parts.items) ≡ all_of (lists_in held.entry)) }
 {
     let all_seams = seams_before(alloc, held, to)?;
     let mut parts = Vec::with_capacity(alloc, held.len() + 1)?;
@@ -50,18 +52,18 @@ pub fn parts_over(
 // For each list the least leaf number at which a cell of it or of a later list begins, and `to` at the end. O(n).
 pub(crate) fn seams_before(
     alloc: Global,
-    held: &[HeldList],
+    held: ListsView<'_>,
     to: u64,
 ) -> Result<Vec<u64>, OutOfMemory>
     requires { to % 2 ≡ 1 }
-    ensures { IfOk result (λ seams. AreSeams held.now seams.items to) }
+    ensures { IfOk result (λ seams. AreSeams (lists_in held.entry) seams.items to) }
 {
     let mut seams = Vec::from_elem(alloc, to, held.len() + 1)?;
     let mut least = to;
     let mut left = held.len();
     while left > 0 {
         left -= 1;
-        least = least_begin(held[left].as_slice(), least);
+        least = least_begin(held.at(left).as_slice(), least);
         seams[left] = least;
     }
     Ok(seams)
@@ -95,16 +97,16 @@ pub(crate) fn greatest_end(held: &[FlatHeld], least: u64) -> u64
 
 // How many lists there are before the first seam that no cell goes over, of lists over the leaves from `from` up to `to`; all lists, if
 // there is none before `to`.
-pub(crate) fn next_cut(held: &[HeldList], seams: &[u64], from: u64, to: u64) -> usize
-    requires seams { AreSeams held.now seams.now to }
-    requires span { IsInSpan (all_of held.now) from to }
-    ensures within { result ≤ length held.now }
-    ensures span { IsInSpan (all_of (take result held.now)) from (slice_index_or seams.now result to) }
+pub(crate) fn next_cut(held: ListsView<'_>, seams: &[u64], from: u64, to: u64) -> usize
+    requires seams { AreSeams (lists_in held) seams.now to }
+    requires span { IsInSpan (all_of (lists_in held)) from to }
+    ensures within { result ≤ length (lists_in held.entry) }
+    ensures span { IsInSpan (all_of (take result (lists_in held.entry))) from (slice_index_or seams.now result to) }
 {
     let mut end = from;
     let mut count = 0;
     while count < held.len() {
-        end = greatest_end(held[count].as_slice(), end);
+        end = greatest_end(held.at(count).as_slice(), end);
         count += 1;
         let seam = seams[count];
         if from < end && end <= seam && seam < to {
@@ -117,14 +119,14 @@ pub(crate) fn next_cut(held: &[HeldList], seams: &[u64], from: u64, to: u64) -> 
 // The table of the pairs of some lists over one span.
 fn part_over(
     alloc: Global,
-    held: &[HeldList],
+    held: ListsView<'_>,
     from: u64,
     to: u64,
 ) -> Result<Arc<SpanTable>, OutOfMemory>
-    requires rises { IsCollection (all_of held.now) }
-    requires within_limit { length (all_of held.now) ≤ 1000000 }
-    requires span { IsInSpan (all_of held.now) from to }
-    ensures pairs { IfOk result (λ part. part.value.held ≡ all_of held.now) }
+    requires rises { IsCollection (all_of (lists_in held)) }
+    requires within_limit { length (all_of (lists_in held)) ≤ 1000000 }
+    requires span { IsInSpan (all_of (lists_in held)) from to }
+    ensures pairs { IfOk result (λ part. part.value.held ≡ all_of (lists_in held.entry)) }
     ensures begins { IfOk result (λ part. part.value.from ≡ from) }
     ensures ends { IfOk result (λ part. part.value.to ≡ to) }
     ensures table { IfOk result (λ part. IsSpanTable part.value) }
@@ -136,16 +138,18 @@ fn part_over(
 }
 
 // The pairs of some lists in one: that list itself, shared, if there is one, else a copy.
-pub(crate) fn in_one_list(alloc: Global, held: &[HeldList]) -> Result<HeldList, OutOfMemory>
-    ensures { IfOk result (λ list. list ≡ all_of held.now) }
+pub(crate) fn in_one_list(alloc: Global, held: ListsView<'_>) -> Result<HeldList, OutOfMemory>
+    ensures { IfOk result (λ list. list ≡ all_of (lists_in held.entry)) }
 {
     if held.len() == 1 {
-        let list = held[0].clone()?;
+        let list = held.at(0).clone()?;
         return Ok(list);
     }
     let mut all = Vec::new(alloc);
-    for list in held {
+    let mut rest = held;
+    while let Some((list, later)) = rest.split_first() {
         all.extend_from_slice(list.as_slice())?;
+        rest = later;
     }
     HeldList::new(alloc, all)
 }

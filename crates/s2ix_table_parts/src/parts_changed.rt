@@ -1,6 +1,7 @@
 //! The parts of a table after a change: made anew only where it changed something.
 ghost use Rattle.std.specs.Prelude.{◌≡◌, ℕ, ◌++◌, ◌<◌, ◌≤◌, ◌+◌, ◌*◌, [], IfOk, OnOk, IsTrue, IsFalse, length, take, drop};
 ghost use Rattle.s2ix_bag_lists.specs.Faces.{all_of};
+ghost use Rattle.s2ix_bag_lists.specs.View.{lists_in};
 ghost use Rattle.s2ix_bag_pairs.specs.Change.{IsChangeList, changed};
 ghost use Rattle.s2ix_bag_pairs.specs.Collection.{AreBelow, IsCollection, IsCollectionFrom};
 ghost use Rattle.s2ix_table_spans.specs.SpanTable.{IsInSpan, IsSpanTable};
@@ -13,7 +14,8 @@ use crate::new_parts::NewParts;
 use crate::part::{Part, share_under};
 use crate::parts::{in_one_list, next_cut, parts_over, seams_before};
 use s2id_core::OutOfMemory;
-use s2ix_bag_held::{FlatHeld, HeldList};
+use s2ix_bag_held::FlatHeld;
+use s2ix_bag_lists::ListsView;
 use s2ix_bag_pairs::Entry;
 use s2ix_table_spans::SpanTable;
 use std::alloc::Global;
@@ -27,24 +29,24 @@ use std::sync::Arc;
 pub fn parts_after(
     alloc: Global,
     before: &[Arc<SpanTable>],
-    held: &[HeldList],
+    held: ListsView<'_>,
     entries: &[Entry],
     from: u64,
     to: u64,
 ) -> Result<NewParts, OutOfMemory>
     requires neighbours { AreNeighbours from (tables_of before.now) to }
-    requires made { changed (held_in (tables_of before.now)) entries.now ≡ all_of held.now }
+    requires made { changed (held_in (tables_of before.now)) entries.now ≡ all_of (lists_in held) }
     requires entries_rise { IsChangeList entries.now }
-    requires rises { IsCollection (all_of held.now) }
-    requires within_limit { length (all_of held.now) ≤ 1000000 }
-    requires span { IsInSpan (all_of held.now) from to }
+    requires rises { IsCollection (all_of (lists_in held)) }
+    requires within_limit { length (all_of (lists_in held)) ≤ 1000000 }
+    requires span { IsInSpan (all_of (lists_in held)) from to }
     ensures order { IfOk result (λ new. new.first ≤ new.end) }
     ensures within { IfOk result (λ new. new.end ≤ length before.now) }
     ensures neighbours { IfOk result (λ new. AreNeighbours from
         (with_parts (tables_of before.now) new.first new.end (tables_of new.parts.items))
         to) }
     ensures pairs { IfOk result (λ new. held_in (with_parts (tables_of before.now) new.first new.end (tables_of new.parts.items))
-        ≡ all_of held.now) }
+        ≡ all_of (lists_in held.entry)) }
 {
     let mut parts = Vec::with_capacity(alloc, before.len())?;
     share_under(&mut parts, before, None)?;
@@ -56,24 +58,24 @@ pub fn parts_after(
 pub(crate) fn changed_parts(
     alloc: Global,
     before: &[Part],
-    held: &[HeldList],
+    held: ListsView<'_>,
     entries: &[Entry],
     from: u64,
     to: u64,
 ) -> Result<NewParts, OutOfMemory>
     requires neighbours { AreNeighbours from (spans_of before.now) to }
-    requires made { changed (held_in (spans_of before.now)) entries.now ≡ all_of held.now }
+    requires made { changed (held_in (spans_of before.now)) entries.now ≡ all_of (lists_in held) }
     requires entries_rise { IsChangeList entries.now }
-    requires rises { IsCollection (all_of held.now) }
-    requires within_limit { length (all_of held.now) ≤ 1000000 }
-    requires span { IsInSpan (all_of held.now) from to }
+    requires rises { IsCollection (all_of (lists_in held)) }
+    requires within_limit { length (all_of (lists_in held)) ≤ 1000000 }
+    requires span { IsInSpan (all_of (lists_in held)) from to }
     ensures order { IfOk result (λ new. new.first ≤ new.end) }
     ensures within { IfOk result (λ new. new.end ≤ length before.now) }
     ensures neighbours { IfOk result (λ new. AreNeighbours from
         (with_parts (spans_of before.now) new.first new.end (tables_of new.parts.items))
         to) }
     ensures pairs { IfOk result (λ new. held_in (with_parts (spans_of before.now) new.first new.end (tables_of new.parts.items))
-        ≡ all_of held.now) }
+        ≡ all_of (lists_in held.entry)) }
 {
     let all_begins = begins_from(alloc, entries)?;
     let whole = Span {
@@ -112,7 +114,7 @@ fn begins_from(alloc: Global, entries: &[Entry]) -> Result<Vec<u64>, OutOfMemory
 #[derive(Clone, Copy)]
 struct Span<'a> {
     tables: &'a [Part],
-    lists: &'a [HeldList],
+    lists: ListsView<'a>,
     entries: &'a [Entry],
     from: u64,
     to: u64,
@@ -131,8 +133,8 @@ struct Cut {
 impl<'a> Span<'a> {
     // Whether there are no entries, so that the tables hold what they held, or no tables.
     fn is_done(self) -> bool
-        requires { IsChangedSpan (spans_of self.tables.now) self.lists.now self.entries.now self.from self.to }
-        ensures pairs { IsTrue result → held_in (spans_of self.entry.tables.now) ≡ all_of self.entry.lists.now }
+        requires { IsChangedSpan (spans_of self.tables.now) (lists_in self.lists) self.entries.now self.from self.to }
+        ensures pairs { IsTrue result → held_in (spans_of self.entry.tables.now) ≡ all_of (lists_in self.entry.lists) }
         ensures some { IsFalse result → 0 < length self.entry.tables.now }
     {
         self.tables.is_empty() || self.entries.is_empty()
@@ -145,14 +147,14 @@ impl<'a> Span<'a> {
         alloc: Global,
         all_begins: &[u64],
     ) -> Result<(usize, Vec<Arc<SpanTable>>), OutOfMemory>
-        requires changed { IsChangedSpan (spans_of self.tables.now) self.lists.now self.entries.now self.from self.to }
+        requires changed { IsChangedSpan (spans_of self.tables.now) (lists_in self.lists) self.entries.now self.from self.to }
         requires begins { AreBegins self.entries.now all_begins.now }
         ensures within { IfOk result (λ made. made.0 ≤ length self.entry.tables.now) }
         ensures neighbours { IfOk result (λ made. AreNeighbours self.entry.from
             (tables_of made.1.items ++ drop made.0 (spans_of self.entry.tables.now))
             self.entry.to) }
         ensures pairs { IfOk result (λ made. held_in (tables_of made.1.items ++ drop made.0 (spans_of self.entry.tables.now))
-            ≡ all_of self.entry.lists.now) }
+            ≡ all_of (lists_in self.entry.lists)) }
     {
         let mut rest = self;
         let mut count = 0;
@@ -171,10 +173,10 @@ impl<'a> Span<'a> {
 
     // The last cut before all entries, or one before all tables if there is no other.
     fn front_cut(self, begins: &[u64]) -> Cut
-        requires changed { IsChangedSpan (spans_of self.tables.now) self.lists.now self.entries.now self.from self.to }
+        requires changed { IsChangedSpan (spans_of self.tables.now) (lists_in self.lists) self.entries.now self.from self.to }
         requires begins { AreBegins self.entries.now begins.now }
         ensures entries { result.entries ≡ 0 }
-        ensures cut { IsCut (spans_of self.entry.tables.now) self.entry.lists.now self.entry.entries.now self.entry.from self.entry.to
+        ensures cut { IsCut (spans_of self.entry.tables.now) (lists_in self.entry.lists) self.entry.entries.now self.entry.from self.entry.to
             result.tables result.lists result.entries result.seam }
     {
         let mut tables = last_by(self.tables, begins[0]);
@@ -204,10 +206,10 @@ impl<'a> Span<'a> {
     // The first cut after a table or more: no entry's cell goes over its seam, and a list ends there.
     fn first_cut(self, begins: &[u64]) -> Cut
         requires some { 0 < length self.tables.now }
-        requires changed { IsChangedSpan (spans_of self.tables.now) self.lists.now self.entries.now self.from self.to }
+        requires changed { IsChangedSpan (spans_of self.tables.now) (lists_in self.lists) self.entries.now self.from self.to }
         requires begins { AreBegins self.entries.now begins.now }
         ensures some { 0 < result.tables }
-        ensures cut { IsCut (spans_of self.entry.tables.now) self.entry.lists.now self.entry.entries.now self.entry.from self.entry.to
+        ensures cut { IsCut (spans_of self.entry.tables.now) (lists_in self.entry.lists) self.entry.entries.now self.entry.from self.entry.to
             result.tables result.lists result.entries result.seam }
     {
         let mut cut = Cut {
@@ -235,12 +237,12 @@ impl<'a> Span<'a> {
     // The seam after one table more, with the entries and the lists whose numbers are below it.
     fn next_seam(self, cut: Cut) -> Cut
         requires some { cut.tables + 1 < length self.tables.now }
-        requires changed { IsChangedSpan (spans_of self.tables.now) self.lists.now self.entries.now self.from self.to }
-        requires lists { cut.lists ≤ length self.lists.now }
+        requires changed { IsChangedSpan (spans_of self.tables.now) (lists_in self.lists) self.entries.now self.from self.to }
+        requires lists { cut.lists ≤ length (lists_in self.lists) }
         requires entries { cut.entries ≤ length self.entries.now }
         requires reach { EntriesEndBy (take cut.entries self.entries.now) cut.reach }
         ensures tables { result.tables ≡ cut.tables + 1 }
-        ensures lists { result.lists ≤ length self.entry.lists.now }
+        ensures lists { result.lists ≤ length (lists_in self.entry.lists) }
         ensures entries { result.entries ≤ length self.entry.entries.now }
         ensures seam { result.seam ≡ (table_of (spans_of self.entry.tables.now) result.tables).from }
         ensures reach { EntriesEndBy (take result.entries self.entry.entries.now) result.reach }
@@ -265,14 +267,14 @@ impl<'a> Span<'a> {
 
     // Whether no entry's cell goes over a seam, and the lists before it hold all pairs before it.
     fn is_clean(self, cut: Cut, begins: &[u64]) -> bool
-        requires changed { IsChangedSpan (spans_of self.tables.now) self.lists.now self.entries.now self.from self.to }
+        requires changed { IsChangedSpan (spans_of self.tables.now) (lists_in self.lists) self.entries.now self.from self.to }
         requires begins { AreBegins self.entries.now begins.now }
         requires tables { cut.tables < length self.tables.now }
-        requires lists { cut.lists ≤ length self.lists.now }
+        requires lists { cut.lists ≤ length (lists_in self.lists) }
         requires entries { cut.entries ≤ length self.entries.now }
         requires seam { cut.seam ≡ (table_of (spans_of self.tables.now) cut.tables).from }
         requires reach { EntriesEndBy (take cut.entries self.entries.now) cut.reach }
-        ensures { IsTrue result → IsCut (spans_of self.entry.tables.now) self.entry.lists.now self.entry.entries.now
+        ensures { IsTrue result → IsCut (spans_of self.entry.tables.now) (lists_in self.entry.lists) self.entry.entries.now
             self.entry.from self.entry.to cut.tables cut.lists cut.entries cut.seam }
     {
         if cut.seam < cut.reach || begins[cut.entries] < cut.seam {
@@ -284,10 +286,10 @@ impl<'a> Span<'a> {
     // What lies before a cut.
     fn before(self, cut: Cut) -> Span<'a>
         requires tables { cut.tables ≤ length self.tables.now }
-        requires lists { cut.lists ≤ length self.lists.now }
+        requires lists { cut.lists ≤ length (lists_in self.lists) }
         requires entries { cut.entries ≤ length self.entries.now }
         ensures tables { result.tables.now ≡ take cut.tables self.entry.tables.now }
-        ensures lists { result.lists.now ≡ take cut.lists self.entry.lists.now }
+        ensures lists { (lists_in result.lists) ≡ take cut.lists (lists_in self.entry.lists) }
         ensures entries { result.entries.now ≡ take cut.entries self.entry.entries.now }
         ensures from { result.from ≡ self.entry.from }
         ensures to { result.to ≡ cut.seam }
@@ -307,10 +309,10 @@ impl<'a> Span<'a> {
     // What lies after a cut.
     fn after(self, cut: Cut) -> Span<'a>
         requires tables { cut.tables ≤ length self.tables.now }
-        requires lists { cut.lists ≤ length self.lists.now }
+        requires lists { cut.lists ≤ length (lists_in self.lists) }
         requires entries { cut.entries ≤ length self.entries.now }
         ensures tables { result.tables.now ≡ drop cut.tables self.entry.tables.now }
-        ensures lists { result.lists.now ≡ drop cut.lists self.entry.lists.now }
+        ensures lists { (lists_in result.lists) ≡ drop cut.lists (lists_in self.entry.lists) }
         ensures entries { result.entries.now ≡ drop cut.entries self.entry.entries.now }
         ensures from { result.from ≡ cut.seam }
         ensures to { result.to ≡ self.entry.to }
@@ -330,11 +332,11 @@ impl<'a> Span<'a> {
     // Appends the tables of the span after the change.
     fn push_changed(self, alloc: Global, parts: &mut Vec<Arc<SpanTable>>) -> Result<(), OutOfMemory>
         requires some { 0 < length self.tables.now }
-        requires changed { IsChangedSpan (spans_of self.tables.now) self.lists.now self.entries.now self.from self.to }
+        requires changed { IsChangedSpan (spans_of self.tables.now) (lists_in self.lists) self.entries.now self.from self.to }
         ensures neighbours { OnOk result ((first : ℕ) → AreNeighbours first (tables_of parts.old.items) self.entry.from
             → AreNeighbours first (tables_of parts.new.items) self.entry.to) }
         ensures pairs { OnOk result (held_in (tables_of parts.new.items)
-            ≡ held_in (tables_of parts.old.items) ++ all_of self.entry.lists.now) }
+            ≡ held_in (tables_of parts.old.items) ++ all_of (lists_in self.entry.lists)) }
     {
         if let Some(part) = self.one_part(alloc)? {
             parts.push(part)?;
@@ -347,8 +349,8 @@ impl<'a> Span<'a> {
 
     // The table of the span after the change, if it is one table before it and stays one: shared, if there is no entry.
     fn one_part(self, alloc: Global) -> Result<Option<Arc<SpanTable>>, OutOfMemory>
-        requires { IsChangedSpan (spans_of self.tables.now) self.lists.now self.entries.now self.from self.to }
-        ensures pairs { IfOkSome result (λ own. own.value.held ≡ all_of self.entry.lists.now) }
+        requires { IsChangedSpan (spans_of self.tables.now) (lists_in self.lists) self.entries.now self.from self.to }
+        ensures pairs { IfOkSome result (λ own. own.value.held ≡ all_of (lists_in self.entry.lists)) }
         ensures begins { IfOkSome result (λ own. own.value.from ≡ self.entry.from) }
         ensures ends { IfOkSome result (λ own. own.value.to ≡ self.entry.to) }
         ensures table { IfOkSome result (λ own. IsSpanTable own.value) }
@@ -371,7 +373,7 @@ impl<'a> Span<'a> {
 
     // Whether the span can't be cut between its lists. O(k) for k pairs.
     fn stays_whole(self, alloc: Global) -> Result<bool, OutOfMemory>
-        requires { IsInSpan (all_of self.lists.now) self.from self.to }
+        requires { IsInSpan (all_of (lists_in self.lists)) self.from self.to }
     {
         if self.lists.len() < 2 {
             return Ok(true);
@@ -399,14 +401,14 @@ pub(crate) fn last_by(parts: &[Part], leaf: u64) -> usize
 }
 
 // How many lists have only cells with numbers below a seam. O(log l) for l lists.
-fn lists_below(lists: &[HeldList], seam: u64) -> usize
-    ensures { result ≤ length lists.now }
+fn lists_below(lists: ListsView<'_>, seam: u64) -> usize
+    ensures { result ≤ length (lists_in lists.entry) }
 {
     let mut low = 0;
     let mut high = lists.len();
     while low < high {
         let middle = low + (high - low) / 2;
-        if is_below(lists[middle].as_slice(), seam) {
+        if is_below(lists.at(middle).as_slice(), seam) {
             low = middle + 1;
         } else {
             high = middle;
@@ -416,12 +418,12 @@ fn lists_below(lists: &[HeldList], seam: u64) -> usize
 }
 
 // The place of the first list, from a place on, that has a cell with a number from a seam on.
-fn lists_up_to(lists: &[HeldList], from: usize, seam: u64) -> usize
-    requires { from ≤ length lists.now }
-    ensures { result ≤ length lists.now }
+fn lists_up_to(lists: ListsView<'_>, from: usize, seam: u64) -> usize
+    requires { from ≤ length (lists_in lists) }
+    ensures { result ≤ length (lists_in lists.entry) }
 {
     let mut place = from;
-    while place < lists.len() && is_below(lists[place].as_slice(), seam) {
+    while place < lists.len() && is_below(lists.at(place).as_slice(), seam) {
         place += 1;
     }
     place
@@ -449,23 +451,23 @@ fn is_from(list: &[FlatHeld], seam: u64) -> bool
 }
 
 // Whether the numbers of all cells in the lists before a place are below a seam.
-fn are_below(lists: &[HeldList], place: usize, seam: u64) -> bool
-    requires within { place ≤ length lists.now }
-    requires rises { IsCollection (all_of lists.now) }
-    ensures { IsTrue result → AreBelow (seam * 2147483648) (all_of (take place lists.now)) }
+fn are_below(lists: ListsView<'_>, place: usize, seam: u64) -> bool
+    requires within { place ≤ length (lists_in lists) }
+    requires rises { IsCollection (all_of (lists_in lists)) }
+    ensures { IsTrue result → AreBelow (seam * 2147483648) (all_of (take place (lists_in lists.entry))) }
 {
     if place == 0 {
         return true;
     }
-    let last = lists[place - 1].as_slice();
+    let last = lists.at(place - 1).as_slice();
     !last.is_empty() && is_below(last, seam)
 }
 
 // Whether the numbers of all cells in the lists from a place on are from a seam on.
-fn are_from(lists: &[HeldList], place: usize, seam: u64) -> bool
-    requires within { place ≤ length lists.now }
-    requires rises { IsCollection (all_of lists.now) }
-    ensures { IsTrue result → IsCollectionFrom (seam * 2147483648) (all_of (drop place lists.now)) }
+fn are_from(lists: ListsView<'_>, place: usize, seam: u64) -> bool
+    requires within { place ≤ length (lists_in lists) }
+    requires rises { IsCollection (all_of (lists_in lists)) }
+    ensures { IsTrue result → IsCollectionFrom (seam * 2147483648) (all_of (drop place (lists_in lists.entry))) }
 {
-    place == lists.len() || is_from(lists[place].as_slice(), seam)
+    place == lists.len() || is_from(lists.at(place).as_slice(), seam)
 }

@@ -7,7 +7,7 @@ ghost use Rattle.s2ix_table_walk.specs.Table.{leaf_end};
 
 use s2id_core::{CellId, LEAF_END};
 use s2id_samples::SET_UP;
-use s2ix_bag::{Bag, FlatHeld, Held, HeldList};
+use s2ix_bag::{Bag, FlatHeld, Held, HeldList, ListsView, SharedLists};
 use s2ix_bag_samples::{WIDEST, bag_of, change_of};
 use s2ix_table::{ChainTable, RangeTable, SpanTable, chain_at};
 use s2ix_table_parts::{NewParts, parts_after, parts_over};
@@ -43,9 +43,9 @@ const CHANGES: [ChangeRow; 6] = [
 ];
 
 // Pairs in lists of so many.
-fn lists_of(alloc: Global, held: &[FlatHeld], size: usize) -> Option<Vec<HeldList>>
+fn lists_of(alloc: Global, held: &[FlatHeld], size: usize) -> Option<SharedLists>
     requires { 0 < size }
-    ensures { IfSome result (λ lists. all_of lists.items ≡ held.now) }
+    ensures { IfSome result (λ lists. all_of lists ≡ held.now) }
 {
     let mut lists = Vec::new(alloc);
     let mut rest = held;
@@ -56,7 +56,10 @@ fn lists_of(alloc: Global, held: &[FlatHeld], size: usize) -> Option<Vec<HeldLis
             .ok()?;
         rest = later;
     }
-    Some(lists)
+    if lists.len() > 1000 {
+        return None;
+    }
+    SharedLists::new(alloc, lists).ok()
 }
 
 // The parts of what a bag holds.
@@ -67,7 +70,7 @@ fn parts_of(alloc: Global, bag: &Bag, size: usize) -> Option<Vec<Arc<SpanTable>>
 {
     let held = bag.flat(alloc).ok()?;
     let lists = lists_of(alloc, held.as_slice(), size)?;
-    parts_over(alloc, lists.as_slice(), 1, LEAF_END).ok()
+    parts_over(alloc, ListsView::all(&lists), 1, LEAF_END).ok()
 }
 
 // A pair, the next one outwards, and whether there are more.
@@ -163,7 +166,15 @@ fn has_parts_after(alloc: Global, row: ChangeRow) -> Option<bool> {
     let next = bag.applied(alloc, &change).ok()?;
     let held = next.flat(alloc).ok()?;
     let lists = lists_of(alloc, held.as_slice(), size)?;
-    let new = parts_after(alloc, &parts, &lists, change.entries(), 1, LEAF_END).ok()?;
+    let new = parts_after(
+        alloc,
+        &parts,
+        ListsView::all(&lists),
+        change.entries(),
+        1,
+        LEAF_END,
+    )
+    .ok()?;
     let after = all_with(alloc, &parts, new)?;
     show_bag(alloc, &after, &next, count)
 }

@@ -85,12 +85,12 @@ fn reads_face(alloc: Global, bag: &Bag) -> Option<bool> {
     let held = read_face(alloc, &mut copying, 0).ok()?;
     let mut sharing = BagReader::new(bag);
     let list = read_list(alloc, &mut sharing, 0).ok()?;
-    match list.parts() {
-        [part] => {
-            Some(are_read(&copying, held.as_slice()) && are_read(&sharing, part.as_slice()))
-        }
-        _ => None,
+    let parts = list.parts();
+    if parts.len() != 1 {
+        return None;
     }
+    let part = parts.at(0);
+    Some(are_read(&copying, held.as_slice()) && are_read(&sharing, part.as_slice()))
 }
 
 #[test]

@@ -1,6 +1,10 @@
-use Rattle.std.proofs.Common.{◌≡◌, ◌++◌, take}
+use Rattle.std.proofs.Common.{◌≡◌, ◌++◌, length}
 use Rattle.s2ix_bag_lists.specs.Faces.{all_of}
+use Rattle.s2ix_bag_lists.specs.View.{lists_in}
 use Rattle.s2ix_bag_lists.proofs.held_parts.append_parts.Given as goal
 
 abbrev pub invariant-loop-part : goal.invariant-loop-part
-invariant-loop-part l = l.all.items ≡ l.fn.all.items ++ all_of (take l.part-index l.parts)
+invariant-loop-part l = l.all.items ++ all_of (lists_in l.rest) ≡ l.fn.all.items ++ all_of (lists_in l.parts)
+
+abbrev pub decreases-loop-part : goal.decreases-loop-part
+decreases-loop-part l = length (lists_in l.rest)

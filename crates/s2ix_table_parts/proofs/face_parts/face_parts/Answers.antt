@@ -1,5 +1,6 @@
 use Rattle.std.proofs.Common.{◌≡◌, ◌+◌, ◌*◌, ℕ, List, [], length, replicate, None, Result, Ok, Err, IfOk, sym, ap, ap₂, ◌∙◌, subst, subst₂, arith, rules}
 use Rattle.s2ix_bag_lists.specs.Faces.{all_of}
+use Rattle.s2ix_bag_lists.specs.View.{lists_in}
 use Rattle.s2ix_bag_pairs.specs.Collection.{Collection}
 use Rattle.s2ix_table_spans.specs.SpanTable.{IsInSpan, SpanRanges}
 use Rattle.s2ix_table_parts.specs.FaceSpans.{AreOnFace, face_begin, overs_of, spans_of, tables_of}
@@ -23,7 +24,7 @@ in_read_span face read held is on = subst₂ (IsInSpan held) (begins_at face rea
 
 pub parts_over-requires-clause-span : goal.parts_over-requires-clause-span
 parts_over-requires-clause-span c =
-    in_read_span c.args.face c.from.result (all_of c.parts.result.now) c.from.ensures
+    in_read_span c.args.face c.from.result (all_of (lists_in c.parts.result)) c.from.ensures
     (subst (AreOnFace c.args.face) (sym c.parts.ensures.list) c.requires.on_face)
 
 pub layered-requires-clause-within_limit : goal.layered-requires-clause-within_limit

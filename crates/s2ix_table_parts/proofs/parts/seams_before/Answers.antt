@@ -1,6 +1,7 @@
-use Rattle.std.proofs.Common.{◌≡◌, ◌+◌, ◌-◌, ◌<◌, ℕ, List, ◌∷◌, ◌++◌, drop, get_or, set, length, sym, ap, ◌∙◌, subst, subst₂, arith}
+use Rattle.std.proofs.Common.{◌≡◌, ◌+◌, ◌-◌, ◌<◌, ℕ, List, [], ◌∷◌, ◌++◌, drop, get_or, set, length, sym, ap, ◌∙◌, subst, subst₂, arith}
 use Rattle.std.proofs.lemmas.List.{length-set, drop-set, drop_more}
 use Rattle.s2ix_bag_lists.specs.Faces.{all_of}
+use Rattle.s2ix_bag_lists.specs.View.{lists_in}
 use Rattle.s2ix_bag_pairs.specs.Collection.{Collection}
 use Rattle.s2ix_table_parts.specs.Parts.{IsSeam, AreSeams}
 use Rattle.s2ix_table_parts.proofs.Parting.{seam_before}
@@ -8,7 +9,7 @@ use Rattle.s2ix_table_parts.proofs.parts.seams_before.Goals as goal
 
 pub loop-left-preserved : goal.loop-left-preserved
 loop-left-preserved c =
-    let held = c.args.held.now in
+    let held = lists_in c.args.held in
     let left = c.loop-left.left in
     let least = c.least_begin-least.result in
     let bs = c.loop-left.seams.items in
@@ -17,10 +18,10 @@ loop-left-preserved c =
     let within : left - 1 < length held = (let le = was.0 in omega arith) in
     let next : left - 1 + 1 ≡ left = omega arith in
     let list = c.as_slice.result.now in
-    let own : list ≡ get_or held (left - 1) c.index-held-left.result = c.as_slice.ensures ∙ c.index-held-left.is in
+    let own : list ≡ get_or held (left - 1) [] = c.as_slice.ensures ∙ c.at.ensures in
     let lists : drop (left - 1) held ≡ list ∷ drop left held =
-    drop_more held (left - 1) c.index-held-left.result within
-    ∙ ap (λ (xs : List Collection). get_or held (left - 1) c.index-held-left.result ∷ xs) (ap (λ n. drop n held) next)
+    drop_more held (left - 1) [] within
+    ∙ ap (λ (xs : List Collection). get_or held (left - 1) [] ∷ xs) (ap (λ n. drop n held) next)
     ∙ ap (λ (x : Collection). x ∷ drop left held) (sym own) in
     let count = was.1 in
     let long : left - 1 < length bs = omega arith in

@@ -1,6 +1,7 @@
 use Rattle.std.proofs.Common.{◌≡◌, ℕ, ◌+◌, List, ◌++◌, length, take, drop, sym, ap, ◌∙◌, subst, arith}
 use Rattle.std.proofs.lemmas.List.{length-drop, drop-drop}
 use Rattle.s2ix_bag_lists.specs.Faces.{all_of}
+use Rattle.s2ix_bag_lists.specs.View.{lists_in}
 use Rattle.s2ix_bag_pairs.specs.Change.{changed}
 use Rattle.s2ix_bag_pairs.specs.Collection.{Collection}
 use Rattle.s2ix_bag_pairs.specs.declared.pair.Entry.{Entry}
@@ -20,7 +21,7 @@ made_anew-requires-clause-changed c =
     let cut = c.front_cut-front.ensures.cut in
     let later = c.after.result in
     let is = c.after.ensures in
-    changed_same (drop front.tables (spans_of before)) (spans_of later.tables.now) (drop front.lists c.args.held.now) later.lists.now
+    changed_same (drop front.tables (spans_of before)) (spans_of later.tables.now) (drop front.lists (lists_in c.args.held)) (lists_in later.lists)
     (drop front.entries c.args.entries.now) later.entries.now front.seam later.from c.args.to later.to cut.later
     (ap spans_of is.tables ∙ spans_dropped front.tables before) is.lists is.entries is.from is.to
 
@@ -60,7 +61,7 @@ returns-clause-neighbours c =
 pub returns-clause-pairs : goal.returns-clause-pairs
 returns-clause-pairs c =
     let spans = spans_of c.args.before.now in
-    let held = c.args.held.now in
+    let held = lists_in c.args.held in
     let front = c.front_cut-front.result in
     let is = c.after.ensures in
     let made = tables_of c.in_ok-count.parts.items in

@@ -3,6 +3,7 @@ use Rattle.std.proofs.Common.{◌≡◌, ◌≤◌, IfOk, length, sym, ap, ◌�
 use Rattle.std.proofs.lemmas.List.{length-map}
 use Rattle.std.specs.Arc.{arc_value}
 use Rattle.s2ix_bag_lists.specs.Faces.{all_of}
+use Rattle.s2ix_bag_lists.specs.View.{lists_in}
 use Rattle.s2ix_bag_pairs.specs.Change.{changed}
 use Rattle.s2ix_table_parts.specs.FaceSpans.{spans_of, tables_of}
 use Rattle.s2ix_table_parts.specs.Neighbours.{AreNeighbours, held_in}
@@ -38,5 +39,5 @@ returns-clause-neighbours c =
 
 pub returns-clause-pairs : goal.returns-clause-pairs
 returns-clause-pairs c =
-    subst (λ ts. IfOk c.changed_parts.result (λ new. held_in (with_parts ts new.first new.end (tables_of new.parts.items)) ≡ all_of c.args.held.now))
+    subst (λ ts. IfOk c.changed_parts.result (λ new. held_in (with_parts ts new.first new.end (tables_of new.parts.items)) ≡ all_of (lists_in c.args.held)))
     (own (goal.at-returns-clause-pairs c).After-as_slice) c.changed_parts.ensures.pairs

@@ -1,6 +1,7 @@
 use Rattle.std.proofs.Common.{ℕ, List, ◌++◌, length, take, drop, sym, ap, ◌∙◌, subst, subst₂, arith, append_assoc}
 use Rattle.std.proofs.lemmas.List.{length-drop, drop-drop}
 use Rattle.s2ix_bag_lists.specs.Faces.{all_of}
+use Rattle.s2ix_bag_lists.specs.View.{lists_in}
 use Rattle.s2ix_bag_pairs.specs.Collection.{Collection}
 use Rattle.s2ix_bag_pairs.specs.declared.pair.Entry.{Entry}
 use Rattle.s2ix_table_spans.specs.SpanTable.{SpanRanges}
@@ -18,7 +19,7 @@ push_changed-requires-clause-changed c =
     let cut = c.first_cut-cut.result in
     let own = c.before-in-loop-rest.result in
     let is = c.before-in-loop-rest.ensures in
-    changed_same (take cut.tables (spans_of rest.tables.now)) (spans_of own.tables.now) (take cut.lists rest.lists.now) own.lists.now
+    changed_same (take cut.tables (spans_of rest.tables.now)) (spans_of own.tables.now) (take cut.lists (lists_in rest.lists)) (lists_in own.lists)
     (take cut.entries rest.entries.now) own.entries.now rest.from own.from cut.seam own.to c.first_cut-cut.ensures.cut.own
     (ap spans_of is.tables ∙ spans_taken cut.tables rest.tables.now) is.lists is.entries is.from is.to
 
@@ -49,7 +50,7 @@ loop-rest-preserved c =
     let left = ap length tables in
     let behind = length-drop c.loop-rest.count c.args.self.tables.now in
     let changed_is =
-    changed_same (drop cut.tables (spans_of rest.tables.now)) (spans_of later.tables.now) (drop cut.lists rest.lists.now) later.lists.now
+    changed_same (drop cut.tables (spans_of rest.tables.now)) (spans_of later.tables.now) (drop cut.lists (lists_in rest.lists)) (lists_in later.lists)
     (drop cut.entries rest.entries.now) later.entries.now cut.seam later.from rest.to later.to is_cut.later
     (ap spans_of is.tables ∙ spans_dropped cut.tables rest.tables.now) is.lists is.entries is.from is.to in
     let begins =
@@ -59,10 +60,10 @@ loop-rest-preserved c =
     subst (λ (n : ℕ). AreNeighbours from new n) (own_is.to ∙ sym is.from)
     (pushed.neighbours from (subst (λ (n : ℕ). AreNeighbours from old n) (sym own_is.from) was.2)) in
     let pairs =
-    ap (λ (hs : Collection). hs ++ all_of later.lists.now) (pushed.pairs ∙ ap (λ (ls : List Collection). held_in old ++ all_of ls) own_is.lists)
-    ∙ ap (λ (ls : List Collection). held_in old ++ all_of (take cut.lists rest.lists.now) ++ all_of ls) is.lists
-    ∙ append_assoc (held_in old) (all_of (take cut.lists rest.lists.now)) (all_of (drop cut.lists rest.lists.now))
-    ∙ ap (λ (hs : Collection). held_in old ++ hs) (split_lists cut.lists rest.lists.now)
+    ap (λ (hs : Collection). hs ++ all_of (lists_in later.lists)) (pushed.pairs ∙ ap (λ (ls : List Collection). held_in old ++ all_of ls) own_is.lists)
+    ∙ ap (λ (ls : List Collection). held_in old ++ all_of (take cut.lists (lists_in rest.lists)) ++ all_of ls) is.lists
+    ∙ append_assoc (held_in old) (all_of (take cut.lists (lists_in rest.lists))) (all_of (drop cut.lists (lists_in rest.lists)))
+    ∙ ap (λ (hs : Collection). held_in old ++ hs) (split_lists cut.lists (lists_in rest.lists))
     ∙ was.3 in
     (changed_is, begins, neighbours, pairs, is.to ∙ was.4, omega (arith, was.5), is.tables ∙ ap (drop cut.tables) tables ∙ drop-drop cut.tables c.loop-rest.count c.args.self.tables.now)
 

@@ -3,6 +3,7 @@ use Rattle.std.proofs.lemmas.List.{map-append}
 use Rattle.std.specs.Arc.{arc_value}
 use Rattle.std.specs.Option.{IfSome}
 use Rattle.std.specs.declared.sync.Arc.{Arc}
+use Rattle.s2ix_bag_lists.specs.View.{lists_in}
 use Rattle.s2ix_table_spans.specs.SpanTable.{SpanRanges, IsSpanTable}
 use Rattle.s2ix_table_parts.specs.FaceSpans.{spans_of, tables_of}
 use Rattle.s2ix_table_parts.specs.Neighbours.{AreNeighbours}
@@ -34,7 +35,7 @@ parts_over-requires-clause-span c =
     let own = c.args.self in
     let count = many_shared own.tables.now in
     let some = c.requires.some in
-    changed_in_span (spans_of own.tables.now) own.lists.now own.entries.now own.from own.to (omega arith) c.requires.changed
+    changed_in_span (spans_of own.tables.now) (lists_in own.lists) own.entries.now own.from own.to (omega arith) c.requires.changed
 
 pub returns-clause-neighbours : goal.returns-clause-neighbours
 returns-clause-neighbours c first are =

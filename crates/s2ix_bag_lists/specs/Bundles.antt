@@ -1,0 +1,25 @@
+-- Lists of pairs in bundles, one after the other.
+use Rattle.std.specs.Prelude.{◌≡◌, ℕ, ◌+◌, ◌<◌, ◌≤◌, List, [], ◌∷◌, take, length, flat_map, slice_index_or}
+use Rattle.s2ix_bag_pairs.specs.Collection.{Collection}
+
+-- the lists of some bundles, one after the other
+abbrev pub lists_of : List (List Collection) → List Collection
+lists_of bundles = flat_map (λ bundle. bundle) bundles
+
+-- how many lists come before each bundle, where n come before the first
+abbrev pub bundle_starts : ℕ → List (List Collection) → List ℕ
+bundle_starts n [] = []
+bundle_starts n (bundle ∷ bundles) = n ∷ bundle_starts (n + length bundle) bundles
+
+-- the running numbers and the length are those of the bundles
+pub record AreBundles (bundles : List (List Collection)) (starts : List ℕ) (len : ℕ) : Type 0 where
+  pub counted : starts ≡ bundle_starts 0 bundles
+  pub whole : len ≡ length (lists_of bundles)
+  pub within_limit : len ≤ 1000000
+
+-- the bundle that has the list at a place, and how many lists come before it
+pub record IsBundleAt (bundles : List (List Collection)) (place bundle before : ℕ) : Type 0 where
+  pub within : bundle < length bundles
+  pub counted : before ≡ length (lists_of (take bundle bundles))
+  pub begins : before ≤ place
+  pub ends : place < before + length (slice_index_or bundles bundle [])
