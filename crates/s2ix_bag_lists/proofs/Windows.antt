@@ -1,5 +1,5 @@
 -- A change whose entries fall into some parts changes these parts alone.
-use Rattle.std.proofs.Common.{◌≡◌, ℕ, zero, suc, ◌+◌, ◌-◌, ◌<◌, ◌≤◌, List, [], ◌∷◌, ◌++◌, take, drop, get_or, length, refl, sym, ap, ◌∙◌, subst, arith, append_assoc, length-append, Result, Ok, Err, IfOk}
+use Rattle.std.proofs.Common.{◌≡◌, ℕ, zero, suc, ◌+◌, ◌-◌, ◌<◌, ◌≤◌, List, [], ◌∷◌, ◌++◌, take, drop, get_or, length, refl, sym, ap, ◌∙◌, subst, arith, append_assoc, length-append}
 use Rattle.std.proofs.lemmas.List.{length-drop, length-take-le}
 use Rattle.s2ix_bag_pairs.specs.Collection.{Collection, IsCollection, IsCollectionFrom, AreBelow}
 use Rattle.s2ix_bag_pairs.specs.Change.{IsChangeList, IsChangeListFrom, changed}
@@ -124,8 +124,3 @@ window_filled ps made first end filled made_filled =
 pub filled_count : (ps : List Collection) → AreFilled ps → length ps ≤ length (all_of ps)
 filled_count [] filled = omega arith
 filled_count (p ∷ ps) filled = omega (arith, filled.0, filled_count ps filled.1, length-append p (all_of ps))
-
--- what one fact on an answer gives
-pub on_ok : {A E : Type 0} (r : Result A E) (P Q : A → Type 0) → IfOk r P → ((x : A) → P x → Q x) → IfOk r Q
-on_ok (Ok x) P Q p all = all x p
-on_ok (Err e) P Q p all = tt

@@ -11,7 +11,6 @@ use crate::cut::{cut, pieces};
 use crate::lists_view::ListsView;
 use crate::part_list::PartList;
 use crate::parts_mismatch::mismatch_in_parts;
-use crate::shared_lists::SharedLists;
 use s2id_core::OutOfMemory;
 use s2ix_bag_held::{FlatHeld, HeldList};
 use s2ix_bag_pairs::{Entry, Held, Pair};
@@ -106,25 +105,16 @@ impl HeldParts {
         requires within_limit { length (all_of parts.items) ≤ 1000000 }
         ensures { IfOk result (λ list. list ≡ all_of parts.items) }
     {
-        let shared = SharedLists::new(alloc, parts)?;
-        HeldParts::from_shared(alloc, shared, max_part_len)
-    }
-
-    // The same of parts that may be shared.
-    fn from_shared(
-        alloc: Global,
-        parts: SharedLists,
-        max_part_len: usize,
-    ) -> Result<HeldParts, OutOfMemory>
-        requires rises { IsCollection (all_of parts) }
-        requires filled { AreFilled parts }
-        requires within_limit { length (all_of parts) ≤ 1000000 }
-        ensures { IfOk result (λ list. list ≡ all_of parts) }
-    {
-        if parts.len() == 0 {
+        if parts.is_empty() {
             return Ok(HeldParts::in_parts_of(max_part_len));
         }
-        let shared = Arc::new(alloc, PartList::new(alloc, parts)?)?;
+        HeldParts::sharing(alloc, PartList::new(alloc, parts)?, max_part_len)
+    }
+
+    fn sharing(alloc: Global, list: PartList, max_part_len: usize) -> Result<HeldParts, OutOfMemory>
+        ensures { IfOk result (λ held. held ≡ list) }
+    {
+        let shared = Arc::new(alloc, list)?;
         Ok(HeldParts {
             shared: Some(shared),
             max_part_len,
@@ -226,10 +216,10 @@ impl HeldParts {
             return Ok(self.clone()?);
         }
         match &self.shared {
-            Some(shared) => {
-                let parts = shared.after(alloc, entries, self.max_part_len)?;
-                HeldParts::from_shared(alloc, parts, self.max_part_len)
-            }
+            Some(shared) => match shared.after(alloc, entries, self.max_part_len)? {
+                Some(list) => HeldParts::sharing(alloc, list, self.max_part_len),
+                None => Ok(HeldParts::in_parts_of(self.max_part_len)),
+            },
             None => {
                 let held = merge(alloc, &[], entries)?;
                 HeldParts::new_in_parts_of(alloc, held, self.max_part_len)

@@ -1,4 +1,4 @@
-ghost use Rattle.std.specs.Prelude.{◌≡◌, ◌+◌, ◌++◌, ◌<◌, ◌≤◌, length, IfOk, OnOk};
+ghost use Rattle.std.specs.Prelude.{◌≡◌, ◌+◌, ◌++◌, ◌<◌, ◌≤◌, [], None, length, take, drop, IfOk, IfSome, OnOk};
 ghost use Rattle.s2ix_bag_lists.specs.Apply.{AreBefore};
 ghost use Rattle.s2ix_bag_lists.specs.Faces.{all_of};
 ghost use Rattle.s2ix_bag_lists.specs.Parts.{AreFilled, IsPartAt, starts_from};
@@ -59,32 +59,86 @@ fn push_starts(
     Ok(start)
 }
 
-// How many pairs come before each part, and how many the parts have in all. O(p) for p parts. `OutOfMemory` if a growth is refused.
-fn starts_of(alloc: Global, parts: ListsView<'_>) -> Result<(Vec<usize>, usize), OutOfMemory>
-    requires { length (all_of (lists_in parts)) ≤ 1000000 }
-    ensures starts { IfOk result (λ counted. counted.0.items ≡ starts_from 0 (lists_in parts.entry)) }
-    ensures len { IfOk result (λ counted. counted.1 ≡ length (all_of (lists_in parts.entry))) }
+// Appends how many pairs come before each part from the number `end` on, if `now` come before the first of them, of which `was` came before it
+// by the `starts` as they are. O(p) for p parts, of which it reads none.
+fn push_later_starts(
+    all: &mut Vec<usize>,
+    parts: ListsView<'_>,
+    starts: &[usize],
+    end: usize,
+    was: usize,
+    now: usize,
+) -> Result<(), OutOfMemory>
+    requires counted { starts.now ≡ starts_from 0 (lists_in parts) }
+    requires within { end ≤ length (lists_in parts) }
+    requires was { was ≡ length (all_of (take end (lists_in parts))) }
+    requires within_limit { now + length (all_of (drop end (lists_in parts))) ≤ 1000000 }
+    ensures { OnOk result (all.new.items ≡ all.old.items ++ starts_from now (drop end (lists_in parts.entry))) }
 {
-    let mut starts = Vec::with_capacity(alloc, parts.len())?;
-    let mut before = 0;
-    let mut rest = parts;
-    while let Some((own, later)) = rest.split_bundle() {
-        before = push_starts(&mut starts, own, before)?;
-        rest = later;
+    let mut part = end;
+    while part < parts.len() {
+        all.push(starts[part] - was + now)?;
+        part += 1;
     }
-    Ok((starts, before))
+    Ok(())
+}
+
+// How many pairs come before the part of a number, by the `starts`; all pairs, if no part has the number.
+fn pairs_before(parts: ListsView<'_>, starts: &[usize], len: usize, part: usize) -> usize
+    requires counted { starts.now ≡ starts_from 0 (lists_in parts) }
+    requires whole { len ≡ length (all_of (lists_in parts)) }
+    requires within { part ≤ length (lists_in parts) }
+    ensures { result ≡ length (all_of (take part (lists_in parts.entry))) }
+{
+    if part < starts.len() {
+        starts[part]
+    } else {
+        len
+    }
+}
+
+// How many pairs come before each part, and how many the parts have in all, once others take the place of those from the number `window.0` on
+// and before `window.1`; `starts` and `len` say so of the parts as they are. O(p) for p parts, of which it reads only the new ones.
+fn starts_with(
+    alloc: Global,
+    parts: ListsView<'_>,
+    starts: &[usize],
+    len: usize,
+    window: (usize, usize),
+    made: &[HeldList],
+) -> Result<(Vec<usize>, usize), OutOfMemory>
+    requires counted { starts.now ≡ starts_from 0 (lists_in parts) }
+    requires whole { len ≡ length (all_of (lists_in parts)) }
+    requires some { window.0 < window.1 }
+    requires within { window.1 ≤ length (lists_in parts) }
+    requires within_limit { length (all_of (take window.0 (lists_in parts) ++ (made.now ++ drop window.1 (lists_in parts)))) ≤ 1000000 }
+    ensures starts { IfOk result (λ counted. counted.0.items
+        ≡ starts_from 0 (take window.0 (lists_in parts.entry) ++ (made.now ++ drop window.1 (lists_in parts.entry)))) }
+    ensures len { IfOk result (λ counted. counted.1
+        ≡ length (all_of (take window.0 (lists_in parts.entry) ++ (made.now ++ drop window.1 (lists_in parts.entry))))) }
+{
+    let (first, end) = window;
+    let (front, _) = starts.split_at(first);
+    let mut all = Vec::with_capacity(alloc, starts.len().saturating_add(made.len()))?;
+    all.extend_from_slice(front)?;
+    let now = push_starts(&mut all, made, starts[first])?;
+    let was = pairs_before(parts, starts, len, end);
+    push_later_starts(&mut all, parts, starts, end, was, now)?;
+    Ok((all, len - was + now))
 }
 
 impl PartList {
     // What these parts hold. O(p) for p parts. `OutOfMemory` if a growth is refused.
-    pub(crate) fn new(alloc: Global, parts: SharedLists) -> Result<PartList, OutOfMemory>
-        requires some { 0 < length parts }
-        requires rises { IsCollection (all_of parts) }
-        requires filled { AreFilled parts }
-        requires within_limit { length (all_of parts) ≤ 1000000 }
-        ensures { IfOk result (λ list. list ≡ all_of parts) }
+    pub(crate) fn new(alloc: Global, parts: Vec<HeldList>) -> Result<PartList, OutOfMemory>
+        requires some { 0 < length parts.items }
+        requires rises { IsCollection (all_of parts.items) }
+        requires filled { AreFilled parts.items }
+        requires within_limit { length (all_of parts.items) ≤ 1000000 }
+        ensures { IfOk result (λ list. list ≡ all_of parts.items) }
     {
-        let (starts, len) = starts_of(alloc, ListsView::all(&parts))?;
+        let mut starts = Vec::with_capacity(alloc, parts.len())?;
+        let len = push_starts(&mut starts, &parts, 0)?;
+        let parts = SharedLists::new(alloc, parts)?;
         Ok(PartList { parts, starts, len })
     }
 
@@ -123,28 +177,32 @@ impl PartList {
         count_of(parts.at(part).as_slice(), pair)
     }
 
-    // The parts once a change is applied that has the right counts before. It counts one more user of each of the w parts from the first
-    // entry's to the last entry's, and of the others in bundles: O(b + w + m + k) for b bundles, m entries and the k pairs of their parts.
-    // `OutOfMemory` if a growth is refused.
+    // What a change that has the right counts before makes of the pairs; `None` if no pair is left. Parts that are not near its entries are
+    // shared by bundles: O(b + w + m + k) for b bundles, w parts from the first entry's to the last entry's, m entries and the k pairs of their
+    // parts, and O(p) to write p numbers. `OutOfMemory` if a growth is refused.
     pub(crate) fn after(
         &self,
         alloc: Global,
         entries: &[Entry],
         max_part_len: usize,
-    ) -> Result<SharedLists, OutOfMemory>
+    ) -> Result<Option<PartList>, OutOfMemory>
         requires some { 0 < length entries.now }
         requires entries_rise { IsChangeList entries.now }
         requires before { AreBefore self.now entries.now }
         requires within_limit { length (changed self.now entries.now) ≤ 1000000 }
-        ensures made { IfOk result (λ parts. all_of parts ≡ changed self.now entries.now) }
-        ensures filled { IfOk result (λ parts. AreFilled parts) }
-        ensures rises { IsCollection self.now }
+        ensures some { IfOk result (λ after. IfSome after (λ list. list ≡ changed self.now entries.now)) }
+        ensures none { IfOk result (λ after. after ≡ None → changed self.now entries.now ≡ []) }
     {
         let parts = ListsView::all(&self.parts);
         let (first, end) = window(parts, entries);
         let (up_to, _) = parts.split_at(end);
         let (_, own) = up_to.split_at(first);
         let made = parts_after(alloc, own, entries, max_part_len)?;
-        self.parts.spliced(alloc, first, end, made)
+        let (starts, len) = starts_with(alloc, parts, &self.starts, self.len, (first, end), &made)?;
+        let parts = self.parts.spliced(alloc, first, end, made)?;
+        if parts.len() == 0 {
+            return Ok(None);
+        }
+        Ok(Some(PartList { parts, starts, len }))
     }
 }

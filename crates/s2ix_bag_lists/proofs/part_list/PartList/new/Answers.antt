@@ -1,7 +1,7 @@
 -- There are no more parts than pairs.
 use Rattle.std.proofs.Common.{arith}
 use Rattle.s2ix_bag_lists.proofs.Windows.{filled_count}
-use Rattle.s2ix_bag_lists.proofs.held_parts.HeldParts.from_parts.Goals as goal
+use Rattle.s2ix_bag_lists.proofs.part_list.PartList.new.Goals as goal
 
 pub new-requires : goal.new-requires
 new-requires c = record {
