@@ -14,7 +14,7 @@ import threading
 import time
 from unittest import mock
 
-from of_durable.tools import FACE, FIRST, SECOND, TOP, child, in_file, ran, rest_of, shown, told, words_of
+from of_durable.tools import FACE, FIRST, SECOND, TOP, child, in_file, outcome_of, ran, rest_of, shown, words_of
 from s2ix import Durable, LaterForm, NotKept, Spoilt, index_file, place, refusals
 
 MAKERS, ROUNDS = 4, 20
@@ -76,7 +76,7 @@ def check_forks(count, folder):
             signal.alarm(20)
             calls = [lambda: follower.refresh(), lambda: index.add(FACE, 9), index.undo, index.redo, index.forget, lambda: index.join(2)]
             calls += [index.compact, lambda: index.backup(f"{path}.copy"), lambda: index.line("add 04 9")]
-            os.write(start, repr([told(call) for call in calls]).encode())
+            os.write(start, repr([outcome_of(call) for call in calls]).encode())
             follower.close()
             index.close()
             gc.collect()
@@ -169,7 +169,7 @@ def check_commits(count, folder):
             failing, _, *answer = line.split()
             path = f"{folder}/refused{frames}-{failing}.db"
             wanted = {"done False": 2, "NotKept True": 1}.get(" ".join(answer))
-            found = told(lambda: len(in_file(path)[0].splitlines()) - 2)
+            found = outcome_of(lambda: len(in_file(path)[0].splitlines()) - 2)
             # (an index that closes says that the step may be there)
             count.expect(f"call {failing} of {most}: {answer}", wanted or answer == ["OperationalError"], found if wanted else True)
             came.add(answer[0])
@@ -219,14 +219,14 @@ def check_own(count, folder):
         way(path)
         words = words_of(index.add, FIRST, 7)
         count.expect(f"a step in a file {way.__name__}", (says in words, words.startswith("the file doesn't keep the step")), (True, True))
-        count.expect(f"later steps when it was {way.__name__}", [told(index.undo), told(index.forget), told(index.redo)], ["NotKept"] * 3)
-        count.expect(f"the pairs when it was {way.__name__}", (shown(index), told(index.refresh)), (kept, "OperationalError"))
+        count.expect(f"later steps when it was {way.__name__}", [outcome_of(index.undo), outcome_of(index.forget), outcome_of(index.redo)], ["NotKept"] * 3)
+        count.expect(f"the pairs when it was {way.__name__}", (shown(index), outcome_of(index.refresh)), (kept, "OperationalError"))
         if follower is not None:
-            count.expect(f"its follower when it was {way.__name__}", told(follower.refresh), "OperationalError")
+            count.expect(f"its follower when it was {way.__name__}", outcome_of(follower.refresh), "OperationalError")
             follower.close()
         before = seen_by_another(path)
         index.close()
-        count.expect(f"the file there when it was {way.__name__}", (seen_by_another(path), told(index.add, FACE, 1)), (before, "Closed"))
+        count.expect(f"the file there when it was {way.__name__}", (seen_by_another(path), outcome_of(index.add, FACE, 1)), (before, "Closed"))
         wanted = {deleted: "Spoilt", replaced: [9], read_by_its_own: [1, 2], robbed_of_its_memory: [1, 2], linked: []}[way]
         count.expect(f"what is there when it was {way.__name__}", seen_by_another(path), wanted)
 
@@ -238,7 +238,7 @@ def check_own(count, folder):
     for end in ("-wal", "-shm"):
         os.unlink(path + end)
     os.utime(folder, ns=(second, second))
-    count.expect("a step after a deletion within a second", told(index.add, FIRST, 7), "NotKept")
+    count.expect("a step after a deletion within a second", outcome_of(index.add, FIRST, 7), "NotKept")
     index.close()
 
     # (what copies a folder sets its time as it was)
@@ -266,7 +266,7 @@ def check_own(count, folder):
     count.expect("another's step then", ran(OTHER, path, kill=True), ("1\n", ""))
     del index
     gc.collect()
-    count.expect("what is there when it is collected", (seen_by_another(path), told(Durable, path)), ([1, 2], "OperationalError"))
+    count.expect("what is there when it is collected", (seen_by_another(path), outcome_of(Durable, path)), ([1, 2], "OperationalError"))
 
 
 def check_backup(count, folder):
@@ -300,13 +300,13 @@ def check_backup(count, folder):
             index.add(SECOND, 7)
             index.backup(copy)
         count.expect("a backup before the end of a group", (in_file(copy), Durable(copy, read_only=True).log()), kept)
-        count.expect("a path where a file is", [told(index.backup, each) for each in (copy, path)], ["FileExistsError"] * 2)
+        count.expect("a path where a file is", [outcome_of(index.backup, each) for each in (copy, path)], ["FileExistsError"] * 2)
         open(f"{copy}.new-wal", "w").close()
-        count.expect("a path where a log is", told(index.backup, f"{copy}.new"), "FileExistsError")
-        count.expect("a folder that isn't there", told(index.backup, f"{folder}/none/copy.db"), "FileNotFoundError")
+        count.expect("a path where a log is", outcome_of(index.backup, f"{copy}.new"), "FileExistsError")
+        count.expect("a folder that isn't there", outcome_of(index.backup, f"{folder}/none/copy.db"), "FileNotFoundError")
         flush = index_file._flush
         with mock.patch.object(index_file, "_flush", lambda made: (flush(made), Durable(f"{copy}.come").close())):
-            count.expect("a file that comes while the copy is made", told(index.backup, f"{copy}.come"), "FileExistsError")
+            count.expect("a file that comes while the copy is made", outcome_of(index.backup, f"{copy}.come"), "FileExistsError")
         count.expect("what that file has", labels_in(f"{copy}.come"), [])
         ran("import sys; from s2ix import Durable; Durable(sys.argv[1]).close()", path)
         count.expect("a step after a backup", (index.add(SECOND, 8), in_file(path) == shown(index)), (1, True))
@@ -438,16 +438,16 @@ def check_read_only_disk(count, folder):
             index.add(FACE, 1)
         subprocess.run(["mount", "-o", "remount,ro", disk], check=True)
         with Durable(f"{disk}/a.db", read_only=True) as index:
-            count.expect("a read-only disk", (shown(index)[0], index.refresh(), told(index.add, FACE, 2)), ("s2ix 2\n1 1 1\nend 1 1\n", False, "NotKept"))
+            count.expect("a read-only disk", (shown(index)[0], index.refresh(), outcome_of(index.add, FACE, 2)), ("s2ix 2\n1 1 1\nend 1 1\n", False, "NotKept"))
             index.backup(f"{folder}/from_disk.db")
         count.expect("a backup from it", labels_in(f"{folder}/from_disk.db"), [1])
-        count.expect("a writer there", told(Durable, f"{disk}/a.db"), "OperationalError")
+        count.expect("a writer there", outcome_of(Durable, f"{disk}/a.db"), "OperationalError")
 
         def follow(start):
             index = Durable(f"{disk}/a.db", read_only=True)
             subprocess.run(["mount", "-o", "remount,rw", disk], check=True)
             ran(OTHER, f"{disk}/a.db")
-            os.write(start, str(told(index.refresh)).encode())
+            os.write(start, str(outcome_of(index.refresh)).encode())
 
         with child(follow) as (_, end):
             count.expect("a disk that was not read-only for ever", rest_of(end), b"OperationalError")

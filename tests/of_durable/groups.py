@@ -8,7 +8,7 @@ import sys
 import threading
 import time
 
-from of_durable.tools import FACE, told
+from of_durable.tools import FACE, outcome_of
 from s2ix import Durable, Index
 
 RUNS, STEPS = 40, 30
@@ -24,7 +24,7 @@ class Thread:
     def serve(self):
         while True:
             # (no variable knows what is done, which may hold a generator)
-            self.answers.put(told(self.given.get()))
+            self.answers.put(outcome_of(self.given.get()))
 
     def do(self, work):
         self.given.put(work)
@@ -47,7 +47,7 @@ class Task:
     async def serve(self):
         while True:
             work, answer = await self.given.get()
-            answer.set_result(told(work))
+            answer.set_result(outcome_of(work))
             del work, answer
 
     def do(self, work):
@@ -62,7 +62,7 @@ def places():
     loop, other = asyncio.new_event_loop(), Thread()
     tasks = [Task(loop), Task(loop)]
     try:
-        yield [(0, 0, told), (0, 1, tasks[0].do), (0, 2, tasks[1].do), (1, 0, other.do)]
+        yield [(0, 0, outcome_of), (0, 1, tasks[0].do), (0, 2, tasks[1].do), (1, 0, other.do)]
     finally:
         other.end()
         for each in tasks:
@@ -186,7 +186,7 @@ class Walk:
                 return f"step {number} in {place[:2]}: {fault}"
         while self.held:
             self.end(*self.chance.choice(where))
-        last = told(self.index.add, FACE, 0), told(self.index.forget), self.index.done_count()
+        last = outcome_of(self.index.add, FACE, 0), outcome_of(self.index.forget), self.index.done_count()
         return "" if last == (1, None, 0) else f"at the end {last}"
 
 
@@ -216,7 +216,7 @@ def check_others(count, folder):
         count.expect("a step of another thread waits", came, [])
         group.__exit__(None, None, None)
         count.expect("until the group ends", (other.answers.get(timeout=20), came, shown(index)), (None, [1], [[1], [2]]))
-        count.expect("a group is used once", (told(group.__enter__), group.__exit__(None, None, None)), ("RuntimeError", None))
+        count.expect("a group is used once", (outcome_of(group.__enter__), group.__exit__(None, None, None)), ("RuntimeError", None))
         box = []
         other.do(lambda: box.append(part(index)) or next(box[0]))
         other.do(lambda: index.add(FACE, 3))
@@ -247,7 +247,7 @@ def check_others(count, folder):
         group = index.group()
         group.__enter__()
         index.add(FACE, 1)
-        count.expect("a close in a group", (told(index.close), told(group.__exit__, None, None, None), told(index.add, FACE, 1)), (None, "Closed", "Closed"))
+        count.expect("a close in a group", (outcome_of(index.close), outcome_of(group.__exit__, None, None, None), outcome_of(index.add, FACE, 1)), (None, "Closed", "Closed"))
     with Durable(path) as index:
         count.expect("what it left", shown(index)[6:], [[11, 12]])
 

@@ -10,7 +10,7 @@ import time
 
 from models.plain_model import Model
 from models.random_lines import Writer
-from of_durable.tools import FIRST, child, rest_of, shown, told
+from of_durable.tools import FIRST, child, outcome_of, rest_of, shown
 from s2ix import Durable
 
 IS_LONG = os.environ.get("S2IX_LONG", "") not in ("", "0")
@@ -73,7 +73,7 @@ def made(index, line, number):
     said = {"note": f"step {number}", "who": f"hand {number % 3}"}
     word, *rest = line.split()
     if word == "join":
-        return told(index.join, int(rest[0]), **said) if 1 < int(rest[0]) else None
+        return outcome_of(index.join, int(rest[0]), **said) if 1 < int(rest[0]) else None
     if word == "older":
         return index.forget_older(int(rest[0]), **said)
     return index.line(line, **said)
@@ -135,7 +135,7 @@ def check_kills(count, folder, kills=KILLS):
             found = shown(index), logged(index, many + 1)
         before, later = ((each.shown(), each.log[many:]) for each in (model, after))
         count.expect(f"kill {kill} after {done} lines", found in (before, later), True)
-        told(follower.refresh)
+        outcome_of(follower.refresh)
         count.expect(f"the follower of kill {kill}", (shown(follower), logged(follower, many + 1)), found)
         if found != before:
             model, in_flight = after, in_flight + 1
@@ -200,8 +200,8 @@ def check_follower(count, folder):
         count.expect("the last state", (shown(follower), logged(follower)), (model.shown(), model.log))
         count.expect("nothing new", follower.refresh(), False)
         steps = [follower.undo, follower.redo, follower.forget, follower.clear, lambda: follower.add(FIRST, 1), lambda: follower.join(2)]
-        count.expect("edits of a follower", [told(step) for step in steps] + [told(follower.line, "add 1 1")], ["NotKept"] * 7)
-        count.expect("questions of a follower", (follower.line("dump"), told(follower.forget_older, 0)), (follower.dump(), "NotKept"))
+        count.expect("edits of a follower", [outcome_of(step) for step in steps] + [outcome_of(follower.line, "add 1 1")], ["NotKept"] * 7)
+        count.expect("questions of a follower", (follower.line("dump"), outcome_of(follower.forget_older, 0)), (follower.dump(), "NotKept"))
     return seen
 
 

@@ -11,7 +11,7 @@ import time
 from datetime import datetime, timedelta, timezone
 from unittest import mock
 
-from of_durable.tools import FACE, FIRST, SECOND, child, in_file, rest_of, shown, told, words_of
+from of_durable.tools import FACE, FIRST, SECOND, child, in_file, outcome_of, rest_of, shown, words_of
 from s2ix import BelowZero, Durable, Index
 
 WALKED, STOPPED = 400, 150
@@ -44,15 +44,15 @@ def check_logs(count, folder):
                   (4, "undo", 3, "no", "eve", False), (5, "redo", 3, None, "ann", False), (6, "undo", 3, None, "ann", False),
                   (7, "remove", None, None, "ann", False)]
         count.expect("steps", said(index), wanted)
-        count.expect("revert", (index.revert(id=1, note="back"), index.labels("04"), told(index.revert, id=3)), (1, [], "NoSuchChange"))
-        count.expect("revert by number", (index.revert(3), told(index.revert), told(index.revert, 1, id=1)), (1, "TypeError", "TypeError"))
+        count.expect("revert", (index.revert(id=1, note="back"), index.labels("04"), outcome_of(index.revert, id=3)), (1, [], "NoSuchChange"))
+        count.expect("revert by number", (index.revert(3), outcome_of(index.revert), outcome_of(index.revert, 1, id=1)), (1, "TypeError", "TypeError"))
         count.expect("reverts", said(index, since=8), [(8, "revert", 1, "back", "ann", False), (9, "revert", 7, None, "ann", False)])
-        count.expect("a note that is no text", (told(index.add, "04", 1, note=7), told(index.add, "04", 1, note="\udcff"), len(index.log())),
+        count.expect("a note that is no text", (outcome_of(index.add, "04", 1, note=7), outcome_of(index.add, "04", 1, note="\udcff"), len(index.log())),
                      ("TypeError", "UnicodeEncodeError", 9))
-        refused = [told(index.group(note=7).__enter__), told(index.join, 2, note=b"x"), told(index.undo, who=7), told(Durable, path, who=7)]
+        refused = [outcome_of(index.group(note=7).__enter__), outcome_of(index.join, 2, note=b"x"), outcome_of(index.undo, who=7), outcome_of(Durable, path, who=7)]
         count.expect("such notes of other steps", refused, ["TypeError"] * 4)
         count.expect("times", all(start - 1 < each.time.timestamp() < time.time() + 1 and each.time.tzinfo for each in index.log()), True)
-        count.expect("a full journal", (index.add("04", 3), told(index.add, "04", 3), in_file(path) == shown(index)), (1, "JournalFull", True))
+        count.expect("a full journal", (index.add("04", 3), outcome_of(index.add, "04", 3), in_file(path) == shown(index)), (1, "JournalFull", True))
         count.expect("join", (index.join(2, note="two"), said(index, since=11), index.done_count()), (2, [(11, "join", 9, "two", "ann", False)], 5))
         count.expect("what a join changed", (index.entries(11), index.undo(), index.entries(12)[0].before, index.redo()), ([], 2, 1, 2))
         count.expect("forget_older of more than there are", (index.forget_older(2**40), len(index.log())), (None, 13))
@@ -60,7 +60,7 @@ def check_logs(count, folder):
                      (None, [(14, "forget_older", 7, None, "ann", False)], True))
         other = index.copy()
         count.expect("a copy", (type(other), other.dump() == index.dump(), type(Durable.load(index.dump()))), (Index, True, Index))
-        count.expect("compact", (index.compact(note="small"), said(index)[-1], told(index.undo), os.path.getsize(f"{path}-wal")),
+        count.expect("compact", (index.compact(note="small"), said(index)[-1], outcome_of(index.undo), os.path.getsize(f"{path}-wal")),
                      (None, (15, "forget", None, "small", "ann", False), "NothingToUndo", 0))
         count.expect("after it", (index.add("1", 1), len(index.log()), repr(index)), (1, 16, "<s2ix.Durable, open>"))
         index.line("addunion 8 04 0c", note="line")
@@ -70,12 +70,12 @@ def check_logs(count, folder):
         count.expect("lines", said(index, since=17), [(17, "add_union", None, "line", "ann", False), (18, "revert", 17, None, "ann", True),
                                                      (19, "undo", 18, "undone", "ann", False)])
     calls = [index.log, index.refresh, index.undo, lambda: index.add("04", 1), index.redo, lambda: index.entries(1), lambda: index.as_of(1)]
-    count.expect("closed", [told(call) for call in calls], ["Closed"] * 7)
+    count.expect("closed", [outcome_of(call) for call in calls], ["Closed"] * 7)
     with Durable(path, changes=6) as index:
         count.expect("what can be redone", (index.undone_count(), index.redo(), index.undo(), said(index)[-1][:3]), (1, 2, 2, (21, "undo", 18)))
         count.expect("clear", (index.clear(note="all"), len(index), index.done_count(), said(index)[-1]), (None, 0, 0, (22, "clear", None, "all", None, False)))
         count.expect("what it took", index.entries(22), Index.difference(index.as_of(21), Index()))
-        count.expect("the limits of the file", told(index.add, "04", 1, 10), "TooManyCopies")
+        count.expect("the limits of the file", outcome_of(index.add, "04", 1, 10), "TooManyCopies")
         index.add("0c", 7, 2, note="more")
         wanted = [entry.cell for entry in Index().difference(index)], [each[:2] for each in index.held_labels()]
         count.expect("what is held", wanted, ([SECOND], [(7, 1)]))
@@ -92,11 +92,11 @@ def check_notes(count, folder, path):
     with Durable(f"{folder}/notes.db") as index:
         found = [(each.note, each.who, type(each.note), type(each.who)) for each in index.log(who="\0\x1f=")]
         count.expect("texts of another class", found, [("n\u00e9e \U0001fae8", "\0\x1f=", str, str)])
-    refused = [told(Durable, path, pairs=51), told(Durable, f"{folder}/none.db", read_only=True, timeout=0), told(Durable, path, synchronous="OFF")]
-    refused += [told(Durable, f"{folder}/none/none.db"), told(Durable, f"{folder}/limits.db", pairs=0), told(Durable, path, keep="oldest")]
+    refused = [outcome_of(Durable, path, pairs=51), outcome_of(Durable, f"{folder}/none.db", read_only=True, timeout=0), outcome_of(Durable, path, synchronous="OFF")]
+    refused += [outcome_of(Durable, f"{folder}/none/none.db"), outcome_of(Durable, f"{folder}/limits.db", pairs=0), outcome_of(Durable, path, keep="oldest")]
     count.expect("refused files", refused, ["NoLimits", "OperationalError", "ValueError", "OperationalError", "NoLimits", "ValueError"])
     sqlite3.connect(f"{folder}/other.db", isolation_level=None).execute("CREATE TABLE mine (a)")
-    count.expect("another's file", [told(Durable, f"{folder}/other.db"), told(Durable, f"{folder}/other.db", read_only=True)], ["Spoilt"] * 2)
+    count.expect("another's file", [outcome_of(Durable, f"{folder}/other.db"), outcome_of(Durable, f"{folder}/other.db", read_only=True)], ["Spoilt"] * 2)
 
 
 def overlap(cell, other):
@@ -117,9 +117,9 @@ def check_asked(count, folder):
             if way < 0.6:
                 index.add_all(rows, who=who)
             elif way < 0.7:
-                told(index.drop_label, rows[0][1], who=who)
+                outcome_of(index.drop_label, rows[0][1], who=who)
             else:
-                told(chance.choice([index.undo, index.redo, lambda **given: index.join(2, **given)]), who=who)
+                outcome_of(chance.choice([index.undo, index.redo, lambda **given: index.join(2, **given)]), who=who)
         steps = index.log()
         entries = {each.id: index.entries(each.id) for each in steps}
         count.expect("ids", [each.id for each in steps], list(range(1, len(steps) + 1)))
@@ -138,8 +138,8 @@ def check_asked(count, folder):
             moment = chance.choice(steps).time
             count.expect("since a time", index.log(since=moment), [each for each in steps if each.time >= moment])
             count.expect("before a time", index.log(before=moment), [each for each in steps if each.time < moment])
-        wrong = [told(index.log, label=-1), told(index.log, cell="x"), told(index.log, cell=2), told(index.log, since=datetime(2026, 1, 1)),
-                 told(index.log, most=-1), told(index.entries, 0), told(index.entries, len(steps) + 1), told(index.as_of, len(steps) + 1)]
+        wrong = [outcome_of(index.log, label=-1), outcome_of(index.log, cell="x"), outcome_of(index.log, cell=2), outcome_of(index.log, since=datetime(2026, 1, 1)),
+                 outcome_of(index.log, most=-1), outcome_of(index.entries, 0), outcome_of(index.entries, len(steps) + 1), outcome_of(index.as_of, len(steps) + 1)]
         count.expect("wrong questions", wrong, ["NoLabel", "NoCell", "NoCell", "ValueError", "ValueError"] + ["NoSuchChange"] * 3)
         early, late = datetime(1970, 1, 1, tzinfo=timezone.utc), datetime.now(timezone.utc) + timedelta(days=1)
         count.expect("before all and after all", (index.as_of(early).dump(), index.as_of(late).dump()), (Index().dump(), index.dump()))
@@ -192,13 +192,13 @@ def check_restores(count, folder):
             label, some = chance.randrange(3), chance.sample(cells, chance.randrange(1, 5))
             rows = [(cell, label, chance.randrange(1, 3)) for cell in some]
             for each in (index, plain):
-                told(each.add_all, rows) if step % 3 else told(each.set_label, label, some, same_ok=True)
+                outcome_of(each.add_all, rows) if step % 3 else outcome_of(each.set_label, label, some, same_ok=True)
             if len(index.log()) == len(was):
                 was.append({(row.cell, row.label): row.count for row in index})
         for _ in range(60):
             label, before = chance.randrange(3), chance.randrange(1, len(was))
             wanted = {cell: many for (cell, of), many in was[before - 1].items() if of == label}
-            found = told(index.restore, label, before, note="again"), told(plain.restore, label, before)
+            found = outcome_of(index.restore, label, before, note="again"), outcome_of(plain.restore, label, before)
             count.expect(f"restored before {before}", ({row.cell: row.count for row in index.of_label(label)}, found[0]), (wanted, found[1]))
             count.expect("the same in memory", (index.dump(), index.change(index.done_count())), (plain.dump(), plain.change(plain.done_count())))
             was.append({(row.cell, row.label): row.count for row in index})
@@ -207,12 +207,13 @@ def check_restores(count, folder):
         restored = index.log(newest_first=True, most=1)[0]
         count.expect("the step of it", (restored.kind, restored.note), ("restore", "again"))
         index.forget()
-        count.expect("it needs no change that can be undone", told(index.restore, 0, 1) in (told, "NoChange") or index.of_label(0) == [], True)
+        outcome_of(index.restore, 0, 1)
+        count.expect("it needs no change that can be undone", index.of_label(0), [])
         with index.group():
             index.add(FIRST, 50)
             index.add(SECOND, 50)
             count.expect("in a group", (index.restore(50, before=1), index.of_label(50)), (2, []))
-        wrong = [told(index.restore, 0, 0), told(index.restore, 0, 10**6), told(index.restore, -1, 1), told(plain.restore, 0, 0), told(plain.restore, 0, 10**6)]
+        wrong = [outcome_of(index.restore, 0, 0), outcome_of(index.restore, 0, 10**6), outcome_of(index.restore, -1, 1), outcome_of(plain.restore, 0, 0), outcome_of(plain.restore, 0, 10**6)]
         count.expect("restores that can't be", wrong, ["NoSuchChange", "NoSuchChange", "NoLabel", "NoSuchChange", "NoSuchChange"])
     for make in (Index, lambda: Durable(f"{folder}/below.db")):
         with make() as index:
@@ -243,11 +244,11 @@ def check_same(count, folder):
         count.expect("with a note", (found, said(index, since=4)), ([0, 0, 1], [(4, "set_label", None, "again", None, False), (5, "drop_label", None, "gone", None, False),
                                                                                 (6, "redo", 2, None, None, False)]))
         count.expect("its label", ([each.id for each in index.log(label=7)], [each.id for each in index.log(label=8)], index.entries(4)), ([1, 4], [5], []))
-        wrong = [told(index.set_label, 7, ["04", "0c"], note="x"), told(index.drop_label, 8), told(index.set_label, 8, []), told(index.drop_label, -1, same_ok=True)]
+        wrong = [outcome_of(index.set_label, 7, ["04", "0c"], note="x"), outcome_of(index.drop_label, 8), outcome_of(index.set_label, 8, []), outcome_of(index.drop_label, -1, same_ok=True)]
         count.expect("without the word", (wrong, len(index.log())), (["NoChange", "NoSuchLabel", "NoSuchLabel", "NoLabel"], 6))
     with Index() as index:
         index.set_label(7, ["04"])
-        found = [index.set_label(7, ["04"], same_ok=True), index.drop_label(8, same_ok=True), told(index.set_label, 7, ["04"]), index.done_count()]
+        found = [index.set_label(7, ["04"], same_ok=True), index.drop_label(8, same_ok=True), outcome_of(index.set_label, 7, ["04"]), index.done_count()]
         count.expect("in memory", found, [0, 0, "NoChange", 1])
 
 
@@ -265,7 +266,7 @@ def check_forgotten(count, folder):
         kinds = [each.kind for each in steps]
         count.expect("an index that keeps the newest", (index.done_count(), kinds.count("add"), kinds.count("group"), kinds.count("apply")), (8, 50, 1, 8))
         count.expect("its follower", (follower.refresh(), shown(follower), follower.log()), (True, shown(index), steps))
-        count.expect("too many at once", told(index.apply, "s2ix-journal 2\n" + "change 1\n1 20 0 1\n" * 9 + "end 9\n"), "NoJournal")
+        count.expect("too many at once", outcome_of(index.apply, "s2ix-journal 2\n" + "change 1\n1 20 0 1\n" * 9 + "end 9\n"), "NoJournal")
         states = [index.as_of(number).dump() for number in range(len(steps) + 1)]
         for before in (5, steps[29].time, 31, len(steps) + 1, 3):
             kept = index.dump()
@@ -277,17 +278,17 @@ def check_forgotten(count, folder):
             count.expect(f"the log before {before} is gone", [each for each in log if each.id <= len(steps)], steps[first - 1 :])
             count.expect("it says so", {each.kind for each in more} <= {"compact", "forget_older"}, True)
             count.expect("what is held", (index.dump(), in_file(path) == shown(index)), (kept, True))
-            reached = [told(lambda number=number: index.as_of(number).dump()) for number in range(len(steps) + 1)]
+            reached = [outcome_of(lambda number=number: index.as_of(number).dump()) for number in range(len(steps) + 1)]
             count.expect("the moments that are left", reached, ["NoSuchChange"] * (first - 1) + states[first - 1 :])
             count.expect("its follower then", (follower.refresh() in (True, False), shown(follower), follower.log()), (True, shown(index), log))
-        count.expect("a moment before the log", told(index.as_of, steps[0].time), "NoSuchChange")
+        count.expect("a moment before the log", outcome_of(index.as_of, steps[0].time), "NoSuchChange")
         index.add(FIRST, 99)
         count.expect("steps go on", (index.log()[-1].kind, index.undo(), follower.refresh(), shown(follower)), ("add", 1, True, shown(index)))
     with Durable(path) as index:
         index.add(FIRST, 70)
         index.undo()
         index.compact(before=index.log()[-1].id + 1)
-        count.expect("nothing is left to be redone", (index.undone_count(), told(index.redo), in_file(path) == shown(index)), (0, "NothingToRedo", True))
+        count.expect("nothing is left to be redone", (index.undone_count(), outcome_of(index.redo), in_file(path) == shown(index)), (0, "NothingToRedo", True))
 
 
 def check_full(count, folder):
@@ -300,7 +301,7 @@ def check_full(count, folder):
         with Durable(f"{folder}/full {name}.db", changes=4, keep="newest", synchronous="NORMAL") as index:
             for label in range(1, 5):
                 index.add(FIRST, label)
-            told(call, index)
+            outcome_of(call, index)
             held = [label for label in range(1, 5) if label != of]
             last = index.log()[-1]
             count.expect(f"what {name} takes back", (index.labels(FIRST), last.of if last.kind == "revert" else None), (held, of))
@@ -313,7 +314,7 @@ def check_stale(count, folder):
         index.add(FIRST, 9)
         other.refresh()
         index.add(SECOND, 9)
-        count.expect("a stale restore", told(other.restore, 9, 1), "NotKept")
+        count.expect("a stale restore", outcome_of(other.restore, 9, 1), "NotKept")
         count.expect("after a refresh", (other.refresh(), other.restore(9, 1)), (True, 2))
 
 
@@ -330,13 +331,13 @@ def check_transactions(count, folder):
             words = ["COMMIT", "ROLLBACK", "BEGIN", "DELETE FROM s2ix_step", "UPDATE S2IX_STATE SET last = 0", "INSERT INTO s2ix_label VALUES (1, 1)",
                      "DROP TABLE s2ix_cell", "CREATE TABLE s2ix_mine (a)", "CREATE TRIGGER lost AFTER INSERT ON s2ix_step BEGIN SELECT 1; END",
                      "PRAGMA user_version = 7", "ATTACH ':memory:' AS other", "CREATE INDEX more ON s2ix_step (time)"]
-            count.expect("what is refused", [told(connection.execute, each) for each in words], ["DatabaseError"] * len(words))
-            count.expect("its other calls", [told(connection.commit), told(connection.rollback), told(connection.executescript, "SELECT 1")], ["DatabaseError"] * 3)
+            count.expect("what is refused", [outcome_of(connection.execute, each) for each in words], ["DatabaseError"] * len(words))
+            count.expect("its other calls", [outcome_of(connection.commit), outcome_of(connection.rollback), outcome_of(connection.executescript, "SELECT 1")], ["DatabaseError"] * 3)
             count.expect("what may be asked", (connection.execute("SELECT count(*) FROM s2ix_step").fetchone(), len(index.log()), index.entries), ((0,), 0, index.entries))
             connection.execute("SAVEPOINT mine")
             connection.execute("DELETE FROM shop")
             connection.execute("ROLLBACK TO mine")
-            refused = [told(index.backup, f"{path}.copy"), told(index.forget), told(index.refresh), told(index.transaction().__enter__), told(index.compact)]
+            refused = [outcome_of(index.backup, f"{path}.copy"), outcome_of(index.forget), outcome_of(index.refresh), outcome_of(index.transaction().__enter__), outcome_of(index.compact)]
             count.expect("steps in it", refused, ["RuntimeError"] * 5)
             count.expect("another process's view", seen_rows(path), "OperationalError")
         count.expect("its step", (said(index), follower.refresh(), shown(follower)), ([(1, "group", None, "shop", "ann", False)], True, shown(index)))
@@ -358,13 +359,13 @@ def check_transactions(count, folder):
             index.remove(SECOND, 9)
             connection.execute("DELETE FROM shop WHERE label = 3")
         count.expect("a step that comes to nothing", (len(index.log()), len(seen_rows(path)), in_file(path) == shown(index)), (2, 2, True))
-        count.expect("a table with a name of the index", told(renamed, index), "NotKept")
+        count.expect("a table with a name of the index", outcome_of(renamed, index), "NotKept")
         count.expect("what it left", (len(seen_rows(path)), in_file(path) == shown(index)), (2, True))
         with index.group():
-            count.expect("in a group", told(index.transaction().__enter__), "RuntimeError")
-        count.expect("of a follower", told(follower.transaction().__enter__), "NotKept")
+            count.expect("in a group", outcome_of(index.transaction().__enter__), "RuntimeError")
+        count.expect("of a follower", outcome_of(follower.transaction().__enter__), "NotKept")
         with Durable(path, timeout=0.05) as second, index.transaction() as connection:
-            count.expect("a second writer meanwhile", told(second.add, FIRST, 5), "NotKept")
+            count.expect("a second writer meanwhile", outcome_of(second.add, FIRST, 5), "NotKept")
             connection.execute("INSERT INTO shop VALUES (4, 'd')")
         connection.execute("SELECT 1").fetchall()
         index.backup(f"{path}.copy")
@@ -386,13 +387,13 @@ def check_ended(count, folder):
             with index.transaction() as connection:
                 connection.execute("INSERT INTO shop VALUES (?)", (2,))
                 index.add(FIRST, 7)
-                found.append(told(connection.execute, "INSERT OR ROLLBACK INTO shop VALUES (1)"))
+                found.append(outcome_of(connection.execute, "INSERT OR ROLLBACK INTO shop VALUES (1)"))
                 for words in ("INSERT INTO shop VALUES (3)", "DELETE FROM shop", "CREATE TABLE other (a)"):
-                    found.append(told(connection.execute, words))
-                found.append(told(connection.execute, "INSERT INTO shop VALUES (?)", (4,)))
-                found.append(told(connection.executemany, "INSERT INTO shop VALUES (?)", [(5,), (6,)]))
+                    found.append(outcome_of(connection.execute, words))
+                found.append(outcome_of(connection.execute, "INSERT INTO shop VALUES (?)", (4,)))
+                found.append(outcome_of(connection.executemany, "INSERT INTO shop VALUES (?)", [(5,), (6,)]))
 
-        count.expect("a transaction that was rolled back", (told(write), found), ("NotKept", ["IntegrityError"] + ["OperationalError"] * 5))
+        count.expect("a transaction that was rolled back", (outcome_of(write), found), ("NotKept", ["IntegrityError"] + ["OperationalError"] * 5))
         count.expect("its rows", (seen_rows(path), shown(index), in_file(path)), ([(1,)], kept, kept))
         count.expect("steps go on", (index.add(FIRST, 7), in_file(path) == shown(index)), (1, True))
 
@@ -465,7 +466,7 @@ def seen_rows(path):
     """The rows of the caller's table, in a connection of its own."""
     hand = sqlite3.connect(path, timeout=0)
     try:
-        return told(lambda: hand.execute("SELECT * FROM shop ORDER BY label").fetchall())
+        return outcome_of(lambda: hand.execute("SELECT * FROM shop ORDER BY label").fetchall())
     finally:
         hand.close()
 
@@ -481,13 +482,13 @@ def check_threads(count, folder):
         def all_of(index):
             asked = [index.dump(), index.journal(), index.journal(2), index.undone_count(), index.done_count(), len(index), index.copies(), list(index)]
             asked += [index.at(FIRST + 1 - (FIRST & -FIRST)), index.labels(FACE), index.meet([FIRST]), index.region(2), index.count(FACE, 1), (FACE, 1) in index]
-            asked += [index.change(1), told(index.change, 2), index.of_label(7), index.held_labels(), index.export(), index.copy().dump(), index.range_count()]
+            asked += [index.change(1), outcome_of(index.change, 2), index.of_label(7), index.held_labels(), index.export(), index.copy().dump(), index.range_count()]
             asked += [[tuple(each) for each in index.ranges()], index.line("dump"), index.log(), index.as_of(len(index.log())).dump(), index.entries(1)]
             return asked + [list(index.visit([FACE])), index.find(FIRST | 1)[1:], index.contents(0), [len(each) for each in index.at_each([FACE | 1])]]
 
         def elsewhere(work):
             box = []
-            thread = threading.Thread(target=lambda: box.append(told(work)))
+            thread = threading.Thread(target=lambda: box.append(outcome_of(work)))
             thread.start()
             thread.join(60)
             return box[0]
@@ -571,7 +572,7 @@ def check_saved(count, folder):
         hand = sqlite3.connect(path, isolation_level=None)
         [row] = hand.execute("SELECT * FROM s2ix_step WHERE id = 3").fetchall()
         hand.execute(f"UPDATE s2ix_step SET {words} WHERE id = 3")
-        found = told(lambda: Durable(path, read_only=True).close()), words_of(Durable, path).partition(": its ")[0].partition(": it ")[0]
+        found = outcome_of(lambda: Durable(path, read_only=True).close()), words_of(Durable, path).partition(": its ")[0].partition(": it ")[0]
         count.expect(f"a change before a saved state: {words}", found, ("Spoilt", f"{path}: the file is spoilt: step {4 if 'id' in words else 3}"))
         hand.execute("DELETE FROM s2ix_step WHERE id IN (3, -7)")
         hand.execute(f"INSERT INTO s2ix_step VALUES ({', '.join('?' * len(row))})", row)
@@ -580,7 +581,7 @@ def check_saved(count, folder):
         hand = sqlite3.connect(path, isolation_level=None)
         hand.execute("UPDATE s2ix_saved SET tip = tip + 1 WHERE step = ?", (step,))
         with Durable(path) as index:
-            found = [told(lambda: index.as_of(step)), shown(index) == kept]
+            found = [outcome_of(lambda: index.as_of(step)), shown(index) == kept]
         hand.execute("UPDATE s2ix_saved SET tip = tip - 1 WHERE step = ?", (step,))
         hand.close()
         count.expect(f"a saved state that is spoilt, of step {step}", found, ["Spoilt", True])

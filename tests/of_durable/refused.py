@@ -5,7 +5,7 @@ import os
 import resource
 import sqlite3
 
-from of_durable.tools import FACE, FIRST, SECOND, child, in_file, rest_of, shown, told
+from of_durable.tools import FACE, FIRST, SECOND, child, in_file, outcome_of, rest_of, shown
 from s2ix import Durable
 
 MOST = 2000
@@ -66,7 +66,7 @@ def refused(index, path):
     kept, asked = (state_of(index, path), in_file(path)), asked_of(index)
     lines = []
     for name, call, _ in STEPS:
-        answer = told(call, index)
+        answer = outcome_of(call, index)
         lines.append(f"{name} {answer} {(state_of(index, path), in_file(path)) == kept} {asked_of(index) == asked}")
     return lines
 
@@ -76,7 +76,7 @@ def done(path):
     lines = []
     for place, (name, call, _) in enumerate(STEPS):
         with opened(f"{path}{place}") as index:
-            lines.append(f"{name} {told(call, index)} {in_file(f'{path}{place}') == shown(index)}")
+            lines.append(f"{name} {outcome_of(call, index)} {in_file(f'{path}{place}') == shown(index)}")
     return lines
 
 
@@ -99,10 +99,10 @@ def check_full(count, folder):
             resource.setrlimit(resource.RLIMIT_FSIZE, (4096, most))
             lines = refused(index, path)
             for label in range(10):
-                lines.append(f"{told(other.add, FIRST, 100 + label)} {(shown(other), other.log()) == kept} {in_file(newest) == kept[0]}")
+                lines.append(f"{outcome_of(other.add, FIRST, 100 + label)} {(shown(other), other.log()) == kept} {in_file(newest) == kept[0]}")
             resource.setrlimit(resource.RLIMIT_FSIZE, (most, most))
-            lines += [f"{told(other.add, FIRST, 100 + label)} {in_file(newest) == shown(other)}" for label in range(10)]
-            lines.append(f"{told(index.restore, 3, 5)} {in_file(path) == shown(index)} {other.log(newest_first=True, most=1)[0].kind}")
+            lines += [f"{outcome_of(other.add, FIRST, 100 + label)} {in_file(newest) == shown(other)}" for label in range(10)]
+            lines.append(f"{outcome_of(index.restore, 3, 5)} {in_file(path) == shown(index)} {other.log(newest_first=True, most=1)[0].kind}")
             os.write(start, "\n".join(lines).encode())
 
     with child(fill) as (_, end):
@@ -144,9 +144,9 @@ def check_large(count, folder):
                     connection.executemany("INSERT INTO shop VALUES (?)", (("n" * 3000,) for _ in range(MOST)))
                     index.add(FACE, 50)
 
-            answer = told(write)
+            answer = outcome_of(write)
             resource.setrlimit(resource.RLIMIT_FSIZE, (most, most))
-            os.write(start, f"{answer} {(state_of(index, path), in_file(path)) == kept} {told(lent, index)}".encode())
+            os.write(start, f"{answer} {(state_of(index, path), in_file(path)) == kept} {outcome_of(lent, index)}".encode())
 
     with child(fill) as (_, end):
         answer, *rest = rest_of(end).decode().split()

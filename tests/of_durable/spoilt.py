@@ -8,7 +8,7 @@ import sqlite3
 import time
 import zlib
 
-from of_durable.tools import FACE, FIRST, SECOND, in_file, ran, shown, told, words_of
+from of_durable.tools import FACE, FIRST, SECOND, in_file, outcome_of, ran, shown, words_of
 from s2ix import Durable, LaterForm, NotKept, Spoilt
 from s2ix.form import seal_of
 
@@ -122,7 +122,7 @@ def check_before_refresh(count, path):
         index.add(FACE, 2)
         hand = sqlite3.connect(path, isolation_level=None)
         hand.execute("UPDATE s2ix_step SET note = 'other' WHERE id = 2")
-        count.expect("spoilt before a refresh", (told(follower.refresh), shown(follower)), ("Spoilt", kept))
+        count.expect("spoilt before a refresh", (outcome_of(follower.refresh), shown(follower)), ("Spoilt", kept))
         hand.execute("UPDATE s2ix_step SET note = NULL WHERE id = 2")
         hand.close()
         count.expect("put right", (follower.refresh(), shown(follower)), (True, shown(index)))
@@ -132,7 +132,7 @@ def check_before_refresh(count, path):
         hand = sqlite3.connect(path, isolation_level=None)
         hand.execute("DELETE FROM s2ix_step WHERE id = 3")
         hand.close()
-        count.expect("gone before a refresh", (told(follower.refresh), shown(follower)), ("Spoilt", kept))
+        count.expect("gone before a refresh", (outcome_of(follower.refresh), shown(follower)), ("Spoilt", kept))
 
 
 def saved_last(path):
@@ -163,18 +163,18 @@ def check_gone(count, folder):
                  {"label": 1}, {"label": 1, "who": "ann"}, {"label": 1, "since": 3}, {"label": 1, "newest_first": True, "most": 2}, {"label": 1, "cell": "14"},
                  {"cell": "14"}, {"cell": "1", "since": 3}, {"cell": "14", "who": "ann"}, {"cell": "14", "newest_first": True, "most": 1}]
         for each in asked:
-            count.expect(f"a log without a step, {each}", told(index.log, **each), "Spoilt")
+            count.expect(f"a log without a step, {each}", outcome_of(index.log, **each), "Spoilt")
         listed = [[each.id for each in index.log(**given)] for given in ({"label": 2, "before": 4}, {"cell": "04"}, {"before": 3}, {"label": 1, "most": 1})]
         count.expect("what is before it", (listed, index.as_of(2).copies()), ([[2], [1], [1, 2], [1]], 2))
         calls = [lambda: index.as_of(3), lambda: index.as_of(4), lambda: index.as_of(moments[2]), lambda: index.log(before=moments[3], since=3),
                  lambda: index.entries(3), lambda: index.entries(4), lambda: index.restore(1, 3), lambda: index.restore(1, 4), lambda: index.restore(1, 5)]
         calls += [lambda before=before: index.compact(before=before) for before in (3, 4, 5, 6, moments[3])]
-        count.expect("what wants a step that is gone", [told(call) for call in calls], ["Spoilt"] * len(calls))
-        count.expect("no step", (told(index.entries, 9), told(index.entries, 0), index.entries(6)), ("NoSuchChange", "NoSuchChange", []))
+        count.expect("what wants a step that is gone", [outcome_of(call) for call in calls], ["Spoilt"] * len(calls))
+        count.expect("no step", (outcome_of(index.entries, 9), outcome_of(index.entries, 0), index.entries(6)), ("NoSuchChange", "NoSuchChange", []))
     count.expect("the file then", bytes_at(path), before)
     with Durable(path) as index:
         by_hand(path, "DELETE FROM s2ix_step WHERE id = 6")
-        found = told(index.log), told(index.log, since=6), told(index.entries, 6), index.as_of(6).copies()
+        found = outcome_of(index.log), outcome_of(index.log, since=6), outcome_of(index.entries, 6), index.as_of(6).copies()
         count.expect("the last step is gone, and a state after it is there", found, ("Spoilt", "Spoilt", "Spoilt", 5))
 
 
@@ -187,13 +187,13 @@ def check_seals(count, folder):
         with Durable(path) as index:
             calls = [index.log, lambda: index.log(label=2, since=4), lambda: index.log(cell="1c"), lambda: index.entries(3), lambda: index.entries(4),
                      lambda: index.as_of(3), lambda: index.as_of(4), lambda: index.restore(1, 4), lambda: index.compact(before=4)]
-            count.expect(f"the seal {bad}", [told(call) for call in calls], ["Spoilt"] * len(calls))
+            count.expect(f"the seal {bad}", [outcome_of(call) for call in calls], ["Spoilt"] * len(calls))
     path = f"{folder}/time.db"
     for bad in ("x", b"\xff", None, 1.5):
         moment = saved_last(path)[4]
         by_hand(path, "UPDATE s2ix_step SET time = ? WHERE id IN (3, 4)", bad)
         with Durable(path) as index:
-            count.expect(f"the time {bad}", [told(index.as_of, moment), told(index.log, since=moment)], ["Spoilt"] * 2)
+            count.expect(f"the time {bad}", [outcome_of(index.as_of, moment), outcome_of(index.log, since=moment)], ["Spoilt"] * 2)
         os.unlink(path)
 
 
@@ -212,13 +212,13 @@ def check_indexes(count, path):
         hand.execute("INSERT INTO s2ix_label VALUES (3, 77)")
         hand.execute("DELETE FROM s2ix_cell WHERE step = 2")
         hand.execute("INSERT INTO s2ix_cell VALUES (5, -1)")
-        found = [told(index.log, label=3), index.log(label=4), index.log(label=2), index.log(cell=FIRST), index.log(who="ann")]
+        found = [outcome_of(index.log, label=3), index.log(label=4), index.log(label=2), index.log(cell=FIRST), index.log(who="ann")]
         count.expect("what they find", found, ["Spoilt", [], [log[2]], log[:1] + log[2:], log])
         count.expect("a label whose step is lost", (index.restore(4, before=5), index.of_label(4), index.undo()), (1, [], 1))
         hand.execute("DELETE FROM s2ix_label WHERE label = 3 AND step = 5")
         count.expect("put right", index.log(label=3), [log[3]])
         hand.execute("UPDATE s2ix_step SET note = 'x' WHERE id = 4")
-        found = [told(index.log, label=3), told(index.log), told(index.entries, 4), told(index.as_of, 4), told(index.as_of, 6), told(index.entries, 5)]
+        found = [outcome_of(index.log, label=3), outcome_of(index.log), outcome_of(index.entries, 4), outcome_of(index.as_of, 4), outcome_of(index.as_of, 6), outcome_of(index.entries, 5)]
         count.expect("a step that is spoilt", found[:5] + [len(found[5])], ["Spoilt"] * 5 + [1])
         hand.execute("UPDATE s2ix_step SET note = NULL WHERE id = 4")
         count.expect("steps go on", index.add(SECOND, 1), 1)
@@ -231,7 +231,7 @@ def check_indexes(count, path):
             hand.executemany(f"INSERT INTO s2ix_{name} VALUES (?, ?)", rows)
         if words:
             hand.execute(words)
-        found = told(lambda: Durable(path, read_only=True).close()), told(lambda: Durable(path).close())
+        found = outcome_of(lambda: Durable(path, read_only=True).close()), outcome_of(lambda: Durable(path).close())
         count.expect(f"lists after {words}", found, ("Spoilt",) * 2 if words else (None, None))
     hand.close()
 
@@ -269,7 +269,7 @@ def check_pages(count, folder):
                     with open(mixed, "wb") as file:
                         file.write(taken)
                     many += taken not in (old, new)
-                    found = told(opened, mixed)
+                    found = outcome_of(opened, mixed)
                     if found != "Spoilt" and found not in states:
                         count.expect(f"page {page // 4096} of another state at step {place}", found, "Spoilt")
             old = new
@@ -283,7 +283,7 @@ def opened(path):
         found = opened_of(index)
         by_id = {each.id: each for each in found[1]}
         for asked in ({"label": 50}, {"label": 3}, {"cell": FACE}, {"cell": FIRST}):
-            listed = told(lambda asked=asked: index.log(**asked))
+            listed = outcome_of(lambda asked=asked: index.log(**asked))
             if listed != "Spoilt" and any(by_id.get(each.id, each)._replace(is_undone=False) != each._replace(is_undone=False) for each in listed):
                 return f"the log of {asked} has {listed}"
         return found
@@ -327,7 +327,7 @@ def check_bytes(count, folder):
     for size in range(0, len(whole), 1365):
         with open(spoilt, "wb") as file:
             file.write(whole[:size])
-        found = told(in_file, spoilt)
+        found = outcome_of(in_file, spoilt)
         count.expect(f"the first {size} bytes", found in ("Spoilt", kept), True)
     return len(places)
 
@@ -359,7 +359,7 @@ copied("PASSIVE")
         for end, piece in pieces.items():
             with open(spoilt + end, "wb") as file:
                 file.write(piece[:place] + bytes([piece[place] ^ 1]) + piece[place + 1 :] if end else piece)
-        found = told(in_file, spoilt)
+        found = outcome_of(in_file, spoilt)
         told_of.append(found)
         for end in ("-wal", "-shm"):
             with contextlib.suppress(FileNotFoundError):
@@ -396,7 +396,7 @@ def check_schemas(count, folder):
         hand.close()
         before = bytes_at(path)
         start = time.monotonic()
-        found = [told(Durable, path, read_only=read_only) for read_only in (True, False)]
+        found = [outcome_of(Durable, path, read_only=read_only) for read_only in (True, False)]
         count.expect(f"refused: {words}", (found, time.monotonic() - start < 2, bytes_at(path) == before), (["Spoilt"] * 2, True, True))
     path = f"{folder}/mine.db"
     with Durable(path) as index:
@@ -413,21 +413,21 @@ def check_schemas(count, folder):
         hand.executescript(f"PRAGMA user_version = 3; PRAGMA journal_mode = {mode}; CREATE TABLE IF NOT EXISTS later (a)")
         hand.close()
         before = bytes_at(path)
-        found = [told(Durable, path, read_only=read_only) for read_only in (True, False)]
+        found = [outcome_of(Durable, path, read_only=read_only) for read_only in (True, False)]
         count.expect(f"a later form in the mode {mode}", (found, bytes_at(path) == before), (["LaterForm"] * 2, True))
         count.expect("what is said of it", "later version of s2ix" in words_of(Durable, path), True)
     path = f"{folder}/empty.db"
     for words, given in (("one byte", b"\0"), ("a page of nothing", bytes(4096)), ("text", b"zones\n" * 300)):
         with open(path, "wb") as file:
             file.write(given)
-        found = told(Durable, path), told(Durable, path, read_only=True)
+        found = outcome_of(Durable, path), outcome_of(Durable, path, read_only=True)
         count.expect(f"a file of {words}", (found, open(path, "rb").read() == given), (("Spoilt", "Spoilt"), True))
     os.unlink(path)
     hand = sqlite3.connect(path)
     hand.executescript("CREATE TABLE a (b); DROP TABLE a")
     hand.close()
     before = bytes_at(path)
-    count.expect("an empty database of another program", (told(Durable, path), bytes_at(path) == before), ("Spoilt", True))
+    count.expect("an empty database of another program", (outcome_of(Durable, path), bytes_at(path) == before), ("Spoilt", True))
     open(path, "w").close()
     with Durable(path) as index:
         count.expect("an empty file", index.add(FACE, 1), 1)
@@ -435,13 +435,13 @@ def check_schemas(count, folder):
     whole[104] = 0
     with open(path, "wb") as file:
         file.write(whole)
-    count.expect("no tables on the first page", (told(Durable, path), open(path, "rb").read() == whole), ("Spoilt", True))
+    count.expect("no tables on the first page", (outcome_of(Durable, path), open(path, "rb").read() == whole), ("Spoilt", True))
     for is_there in (True, False):
         with open(path, "w"), open(f"{path}-wal", "wb") as file:
             file.write(b"a log of steps")
         if not is_there:
             os.unlink(path)
-        found = told(Durable, path), os.path.getsize(f"{path}-wal"), os.path.exists(path)
+        found = outcome_of(Durable, path), os.path.getsize(f"{path}-wal"), os.path.exists(path)
         count.expect("a log without its file", found, ("Spoilt", 14, is_there))
 
 
@@ -480,16 +480,16 @@ def check_form_1(count, folder):
         count.expect("form 1", (says, kept[0][0]), (wanted, "s2ix 2\n1 2 1\n1 3 1\n1 4 1\n1 9 1\nend 4 4\n"))
         count.expect("what its log tells", ([each.id for each in follower.log(label=5)], follower.entries(7)[0].before, len(follower.as_of(3))), ([5, 7], 1, 3))
         count.expect("form 1 that is only read", bytes_at(path) == before, True)
-        count.expect("form 1 under other limits", (told(Durable, path, pairs=51), bytes_at(path) == before), ("NoLimits", True))
+        count.expect("form 1 under other limits", (outcome_of(Durable, path, pairs=51), bytes_at(path) == before), ("NoLimits", True))
         with Durable(path, pairs=50) as index:
             count.expect("form 1 taken over", (shown(index), index.log()), kept)
             count.expect("its follower", (follower.refresh(), shown(follower), follower.log()), (False, *kept))
             count.expect("steps then", (index.redo(), index.undo(), index.add(FACE, 8), index.log()[-1].id), (1, 1, 1, 10))
-            moments = [told(lambda number=number: index.as_of(number).copies()) for number in range(11)]
+            moments = [outcome_of(lambda number=number: index.as_of(number).copies()) for number in range(11)]
             count.expect("its moments", moments, ["NoSuchChange"] + [1, 2, 3, 4, 5, 5, 4, 5, 4, 5])
             count.expect("its follower after steps", (follower.refresh(), shown(follower)), (True, shown(index)))
             kept = shown(index)
-    count.expect("form 1 opened again", (in_file(path), told(Durable(path).undo)), (kept, 1))
+    count.expect("form 1 opened again", (in_file(path), outcome_of(Durable(path).undo)), (kept, 1))
     for words, row in (("UPDATE change SET note = 'x' WHERE id = 4", 4), ("UPDATE state SET last = 9", 0), ("DELETE FROM change WHERE id = 3", 0),
                        ("UPDATE dump SET text = ''", 0), ("CREATE TABLE mine (a)", 0)):
         path = f"{folder}/form1 spoilt.db"
@@ -499,7 +499,7 @@ def check_form_1(count, folder):
         hand.close()
         before = bytes_at(path)
         try:
-            found = told(lambda: Durable(path).close(), )
+            found = outcome_of(lambda: Durable(path).close(), )
             Durable(path)
         except Spoilt as refusal:
             found = refusal.row

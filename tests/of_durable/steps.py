@@ -12,7 +12,7 @@ import sys
 import tempfile
 
 import s2ix
-from of_durable.tools import FACE, FIRST, SECOND, told
+from of_durable.tools import FACE, FIRST, SECOND, outcome_of
 from of_python import timers
 from s2ix import Durable, Index
 
@@ -123,7 +123,7 @@ class Case:
                 index.undo()
         with self.opened() as index:
             self.states = [shown(index)]
-            told(self.call, index)
+            outcome_of(self.call, index)
             self.states.append(shown(index))
         if name == "compact before":
             # (it forgets by a step of its own)
@@ -168,7 +168,7 @@ class Case:
 
         sys.settrace(trace)
         try:
-            told(self.call, index)
+            outcome_of(self.call, index)
         except KeyboardInterrupt:
             pass
         finally:
@@ -184,7 +184,7 @@ class Case:
             return f"memory and file have {found}"
         if self.is_locked:
             return ""
-        last = told(index.add, FACE, 30), told(index.undo), told(index.redo)
+        last = outcome_of(index.add, FACE, 30), outcome_of(index.undo), outcome_of(index.redo)
         found = shown(index), in_file(self.path)
         return "" if last == (1, 1, 1) and found[0] == found[1] else f"after the next steps, {last}, memory and file have {found}"
 
@@ -225,7 +225,7 @@ def check_two(count, folder):
         at = chance.randrange(120)
         with case.opened() as index:
             case.traced(index, {at, at + 1 + chance.randrange(60)}, interrupt)
-            told(index.refresh)
+            outcome_of(index.refresh)
             count.expect(f"two interrupts of {case.name} from line {at} on", case.fault(index, case.states), "")
 
 
@@ -246,7 +246,7 @@ def check_storms(count, folder):
             for _ in range(STORMS):
                 with case.opened() as index:
                     said = storm(case, index, left, chance.random() * 1e-3)
-                    told(index.refresh)
+                    outcome_of(index.refresh)
                     fault = case.fault(index, case.states)
                 wrong += [f"{case.name}: {said} {fault}"] if fault or said not in SAID else []
     finally:
@@ -307,7 +307,7 @@ def check_refreshes(count, folder):
                     call(other)
                 came = case.traced(index, {number}, interrupt)
                 if is_open(index):
-                    told(index.refresh)
+                    outcome_of(index.refresh)
                 count.expect(f"a refresh from line {number} on", case.fault(index, [in_file(case.path)]), "")
             number += 1
 
@@ -326,7 +326,7 @@ def check_handlers(count, folder):
             while len(faults) < 3:
                 answers = []
                 with case.opened() as index:
-                    if not case.traced(index, {number}, lambda: answers.append(told(tries[name], index))):
+                    if not case.traced(index, {number}, lambda: answers.append(outcome_of(tries[name], index))):
                         break
                     refused[name] += answers == ["RuntimeError"]
                     found = (shown(index) if is_open(index) else in_file(case.path)), in_file(case.path)

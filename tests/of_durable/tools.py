@@ -36,7 +36,7 @@ def room():
     return "/dev/shm" if is_wide and os.access("/dev/shm", os.W_OK) else None
 
 
-def told(call, *given, **named):
+def outcome_of(call, *given, **named):
     """What a call answers, or the name of what it raises, which may be an interrupt that is told late."""
     try:
         return call(*given, **named)

@@ -171,7 +171,7 @@ def crosses(one, other, start, end):
     return first * turn(start, other, end) > 0 and first * turn(end, one, start) > 0
 
 
-def many(count=2000, changes=40):
+def many_zones(count=2000, changes=40):
     """The history of so many zones of 48 corners in five cities."""
     numbers, side = random.Random(3), math.ceil(math.sqrt(count / len(CITIES)))
     rings = [ring for middle in CITIES for ring in itertools.islice(city(numbers, middle, side, 48), count // len(CITIES))]

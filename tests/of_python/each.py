@@ -27,7 +27,7 @@ for kind in SHARES:
     kind.share = 1
 
 
-def told(call, *given, **named):
+def outcome_of(call, *given, **named):
     """What a call answers, or the class, the value, the place and the words of what it raises."""
     try:
         return call(*given, **named)
@@ -131,13 +131,13 @@ def check_target_forms(count):
         for none in ([], (), array("Q"), iter(())):
             count.expect("no targets", [len(each) for each in (*index.meet_each(none), *index.labels_each(none, 3), *index.labels_each(words, bounds=none))], [0] * 6)
         for wrong in (None, 7, True, 1.5, "04", b"04", bytearray(8), [None], [1.5], [[None]], [b"04"], [["04", None]], array("I", [1]), array("d", [1.0]), memoryview(bytes(16)).cast("Q", (1, 2))):
-            count.expect(f"no targets: {wrong!r}", told(index.meet_each, wrong), TypeError)
+            count.expect(f"no targets: {wrong!r}", outcome_of(index.meet_each, wrong), TypeError)
         for wrong in (7, 1.5, "12", b"12", [1.5], ["1"], [None], array("I", [1]), array("d", [1.0])):
-            count.expect(f"no bounds: {wrong!r}", told(index.meet_each, words, bounds=wrong), TypeError)
-        count.expect("targets beside bounds", told(index.meet_each, [["04"]], bounds=[1]), TypeError)
+            count.expect(f"no bounds: {wrong!r}", outcome_of(index.meet_each, words, bounds=wrong), TypeError)
+        count.expect("targets beside bounds", outcome_of(index.meet_each, [["04"]], bounds=[1]), TypeError)
         for threads, kind in ((0, ValueError), (-1, ValueError), (1.5, TypeError), ("2", TypeError)):
-            count.expect(f"{threads} threads", told(index.meet_each, [FIRST], threads), kind)
-    closed = [told(call, [])[0] for call in (index.meet_each, index.labels_each, index.at_each, index.labels_at_each)]
+            count.expect(f"{threads} threads", outcome_of(index.meet_each, [FIRST], threads), kind)
+    closed = [outcome_of(call, [])[0] for call in (index.meet_each, index.labels_each, index.at_each, index.labels_at_each)]
     count.expect("a closed index", closed, [Closed] * 4)
 
 
@@ -153,10 +153,10 @@ def check_leaf_forms(count):
                 count.expect(f"leaves at {offset}", listed(index.labels_at_each(each)), ([2, 2, 3], [9, 3, 3]))
         for threads in (1, 3):
             ends, _ = index.at_each(leaves, threads)
-            told(index.at_each, [*leaves, 2], threads)
+            outcome_of(index.at_each, [*leaves, 2], threads)
             leaves.append(LEAF)
             # (an array of NumPy has no append)
-            count.expect(f"arrays that grow afterwards, {threads} threads", told(getattr(ends, "append", [].append), 9), None)
+            count.expect(f"arrays that grow afterwards, {threads} threads", outcome_of(getattr(ends, "append", [].append), 9), None)
 
 
 def check_wrong_targets(count):
@@ -169,22 +169,22 @@ def check_wrong_targets(count):
         for call in (index.meet_each, index.labels_each):
             for threads in (1, 2, 8):
                 refused = (NoCell, 2, 2, f"target 2: place 2: {wrong}")
-                count.expect(f"a wrong number, {threads} threads", (told(call, targets, threads), told(call, cells, threads, bounds=bounds)), (refused, refused))
+                count.expect(f"a wrong number, {threads} threads", (outcome_of(call, targets, threads), outcome_of(call, cells, threads, bounds=bounds)), (refused, refused))
                 later = [[FIRST]] * 9 + targets[2:3]
-                count.expect("a wrong number after long rows", told(call, later, threads)[:3], (NoCell, 2, 9))
+                count.expect("a wrong number after long rows", outcome_of(call, later, threads)[:3], (NoCell, 2, 9))
                 for given, place in (([0, 3, 2], 1), ([0, 1, 1, 99, 2, 99], 2), ([0, -1, 0], 0), ([1, 1 << 65, 1], 0), ([0, 4, 3, 4, 2], 1), ([0, 1 << 64], 0), ([3, 2, 4], 0), ([-1, 5], 0), ([6, 6], 0)):
-                    found, value = told(call, [FIRST] * 5, threads, bounds=given), given[place + 1]
+                    found, value = outcome_of(call, [FIRST] * 5, threads, bounds=given), given[place + 1]
                     count.expect(f"bounds {given}, {threads} threads", found[:3], (NoSpan, value if 0 <= value < 1 << 64 else (1 << 64) - 1, place))
-                count.expect("words of a bound", told(call, [FIRST] * 5, threads, bounds=[0, 3, 2])[3], "target 1: its cells end at 2, which is not from 3 to 5")
-            count.expect("a wrong token", told(call, [["04"], ["04", "x"], [2]]), (NoCell, "x", 1, f"target 1: place 1: {spelled}"))
-            count.expect("one wrong token", told(call, ["04", "x"]), (NoCell, "x", 1, f"target 1: place 0: {spelled}"))
-            count.expect("a number too great", told(call, [["04"], [1 << 64]])[:3], (NoCell, 1 << 64, 1))
-            count.expect("a wrong cell of a row", told(call, array("Q", [FIRST, 2])), (NoCell, 2, 1, f"target 1: place 0: {wrong}"))
+                count.expect("words of a bound", outcome_of(call, [FIRST] * 5, threads, bounds=[0, 3, 2])[3], "target 1: its cells end at 2, which is not from 3 to 5")
+            count.expect("a wrong token", outcome_of(call, [["04"], ["04", "x"], [2]]), (NoCell, "x", 1, f"target 1: place 1: {spelled}"))
+            count.expect("one wrong token", outcome_of(call, ["04", "x"]), (NoCell, "x", 1, f"target 1: place 0: {spelled}"))
+            count.expect("a number too great", outcome_of(call, [["04"], [1 << 64]])[:3], (NoCell, 1 << 64, 1))
+            count.expect("a wrong cell of a row", outcome_of(call, array("Q", [FIRST, 2])), (NoCell, 2, 1, f"target 1: place 0: {wrong}"))
         many = array("Q", [LEAF] * 1000)
         for place, threads in ((0, 1), (10, 4), (999, 4), (499, 2), (500, 2)):
             leaves = many[:]
             leaves[place], leaves[999] = 2, 2
-            count.expect(f"a wrong leaf at {place}, {threads} threads", told(index.at_each, leaves, threads), (NoCell, 2, place, f"place {place}: 0x2 is no number of a leaf"))
+            count.expect(f"a wrong leaf at {place}, {threads} threads", outcome_of(index.at_each, leaves, threads), (NoCell, 2, place, f"place {place}: 0x2 is no number of a leaf"))
         count.expect("the index afterwards", (len(index), index.labels(SECOND)), (MANY, []))
 
 
@@ -239,7 +239,7 @@ def check_calls(count):
                 batches._STEP = 1
                 asked = []
                 with calls_by(lambda made, *each: asked.append(time.sleep(0.001)) or made(*each)):
-                    refused = told(call, [2, *few], 2)
+                    refused = outcome_of(call, [2, *few], 2)
                 count.expect(f"{call.__name__} leaves what follows a refusal", (refused[:3], len(asked) < 400), ((NoCell, 2, 0), True))
             finally:
                 batches._STEP = step
@@ -313,7 +313,7 @@ def check_given(count):
         first = leaves.buffer_info()[0]
         for wrong in ([0, 1, 9, 2, 3], [0, 9, 1, 9, 1], [0, 1, 2, 3, 4], [9, 9, 9, 9, 9]):
             given.clear()
-            refused = told(index.meet_each, leaves, 4, bounds=wrong)[0]
+            refused = outcome_of(index.meet_each, leaves, 4, bounds=wrong)[0]
             count.expect(f"cells for bounds {wrong}", (refused, {one[1] + 8 * one[2] for one in given}, all(0 <= one[2] <= 3 for one in given)), (NoSpan, {first + 24}, True))
 
 
@@ -366,7 +366,7 @@ def check_interrupts(count):
                     outcomes.append(interrupted(lambda threads=threads, leaves=leaves: index.labels_at_each(leaves, threads), chance.random() * took + 1e-5))
                     count.expect(f"interrupt {number} of {many} leaves", outcomes[-1] is None or listed(outcomes[-1]) == answer, True)
                     count.expect("the index afterwards", (index.add(SECOND, 1), index.labels(SECOND), index.undo()), (1, [1, 3], 1))
-                    count.expect("an array that grows afterwards", told(leaves.append, LEAF), None)
+                    count.expect("an array that grows afterwards", outcome_of(leaves.append, LEAF), None)
         finally:
             faulthandler.cancel_dump_traceback_later()
             signal.signal(signal.SIGALRM, before)

@@ -15,7 +15,7 @@ FIRST, SECOND, FACE = 0x0400000000000000, 0x0C00000000000000, 0x1000000000000000
 NONE = "s2ix-journal 2\nend 0\n"
 
 
-def told(call, *given):
+def outcome_of(call, *given):
     """What a call answers, or the name of what it raises, with the line or the change, and the entry that are told."""
     try:
         return call(*given)
@@ -36,13 +36,13 @@ def check_histories(count):
         index.add(FACE, 3)
         after, journal = index.dump(), index.journal()
         count.expect("a change", index.change(1), [s2ix.Entry(FIRST, 9, 2, 3), (SECOND, 9, 0, 1)])
-        numbers = [told(index.change, number) for number in (2, 0, 3, -1, 2**32 + 1)]
+        numbers = [outcome_of(index.change, number) for number in (2, 0, 3, -1, 2**32 + 1)]
         count.expect("changes", numbers, [[(FACE, 3, 0, 1)], *[("NoSuchChange", 0, None)] * 4])
         count.expect("replay", Index.replay(before, journal.encode()).dump(), after)
         count.expect("rewind", (Index.rewind(after, journal).dump(), Index.rewind(after, journal).done_count()), (before, 0))
         again, other = Index.load(after, journal=journal.encode()), Index.load(before)
         count.expect("resume", (again.dump(), again.journal(), again.undone_count()), (after, journal, 0))
-        count.expect("undo after it", (again.undo(), again.undo(), again.dump(), told(again.undo)), (1, 2, before, ("NothingToUndo", 0, None)))
+        count.expect("undo after it", (again.undo(), again.undo(), again.dump(), outcome_of(again.undo)), (1, 2, before, ("NothingToUndo", 0, None)))
         count.expect("apply", (other.apply(journal), other.dump(), other.journal()), (3, after, journal))
         count.expect("apply of nothing", (other.undo(), other.apply(NONE), other.undone_count(), other.redo()), (1, 0, 1, 1))
     full = Index.load(before, changes=2)
@@ -65,11 +65,11 @@ def check_histories(count):
         ("a mismatch to apply", lambda: Index().apply(journal), ("Mismatch", 1, 1)),
         ("too many pairs to apply", lambda: Index.load(before, pairs=2).apply(journal), ("TooManyPairs", 2, None)),
         ("the refused index", lambda: (full.dump() == before, full.undo(), full.dump()), (False, 1, before)),
-        ("too few changes", lambda: [told(full.join, last) for last in (1, 2**64, -1)], [("TooFewChanges", 0, None)] * 3),
-        ("older below 0", lambda: told(full.forget_older, -1), "ValueError"),
+        ("too few changes", lambda: [outcome_of(full.join, last) for last in (1, 2**64, -1)], [("TooFewChanges", 0, None)] * 3),
+        ("older below 0", lambda: outcome_of(full.forget_older, -1), "ValueError"),
         ("older above all", lambda: (full.redo(), full.forget_older(2**70), full.done_count()), (1, None, 1)),
     ]:
-        count.expect(name, told(call), wanted)
+        count.expect(name, outcome_of(call), wanted)
     check_groups(count)
     check_given(count)
 
@@ -94,10 +94,10 @@ def check_groups(count):
                 index.add(SECOND, 5)
                 index.remove(SECOND, 5)
             count.expect("a group in a group", index.done_count(), 3)
-            count.expect("undo in a group", (index.undo(), told(index.undo), index.redo()), (1, ("NothingToUndo", 0, None), 1))
-            count.expect("join in a group", (told(index.join, 2), index.join(1)), (("TooFewChanges", 0, None), 1))
+            count.expect("undo in a group", (index.undo(), outcome_of(index.undo), index.redo()), (1, ("NothingToUndo", 0, None), 1))
+            count.expect("join in a group", (outcome_of(index.join, 2), index.join(1)), (("TooFewChanges", 0, None), 1))
             calls = [index.forget, lambda: index.forget_older(1), index.clear, lambda: index.line("undo"), lambda: index.line("\u2003forget")]
-            count.expect("refused in a group", [told(call) for call in calls], ["RuntimeError"] * 5)
+            count.expect("refused in a group", [outcome_of(call) for call in calls], ["RuntimeError"] * 5)
             count.expect("a line in a group", index.line("remove 0c 4"), "ok 1\n")
             count.expect("words in a group", [index.line(line) for line in ("# undo", " #forget", "undo 1")], ["", "", "no BadArguments\n"])
         count.expect("groups of nothing", (index.dump(), index.journal()), kept)
@@ -227,13 +227,13 @@ def check_journals(count):
                 follower.apply(index.journal(follower.done_count() + 1))
                 count.expect("who follows", shown(follower), shown(index))
         count.expect("all changes", index.journal(1), index.journal())
-        count.expect("no such change", [told(index.journal, first) for first in (0, 6, -1, 2**32 + 1)], [("NoSuchChange", 0, None)] * 4)
-        count.expect("no number", [told(index.journal, first) for first in ("1", None, 1.5)], ["TypeError"] * 3)
+        count.expect("no such change", [outcome_of(index.journal, first) for first in (0, 6, -1, 2**32 + 1)], [("NoSuchChange", 0, None)] * 4)
+        count.expect("no number", [outcome_of(index.journal, first) for first in ("1", None, 1.5)], ["TypeError"] * 3)
         follower.undo()
         index.add(FACE, 9)
         found = index.difference(follower), index.difference(index), follower.record(follower.difference(index)), follower.dump() == index.dump()
         count.expect("difference", found, ([(FIRST, 3, 1, 0), (SECOND, 3, 2, 0), (FACE, 9, 1, 0)], [], 3, True))
-        refused = [told(index.difference, closed), told(closed.difference, index), told(index.difference, None), told(index.difference, index.dump())]
+        refused = [outcome_of(index.difference, closed), outcome_of(closed.difference, index), outcome_of(index.difference, None), outcome_of(index.difference, index.dump())]
         count.expect("no difference", refused, [("Closed", 0, None)] * 2 + ["TypeError"] * 2)
 
 

@@ -14,7 +14,7 @@ FIRST, SECOND, THIRD, FACE = 0x0400000000000000, 0x0C00000000000000, 0x140000000
 STEPS = 300
 
 
-def told(call, *given):
+def outcome_of(call, *given):
     """What a call answers, or the name of what it raises."""
     try:
         return call(*given)
@@ -44,20 +44,20 @@ def check_set_label(count):
         for name, call, wanted in [
             ("no cell", lambda: index.set_label(1, [FIRST, 2]), "NoCell"),
             ("no token", lambda: index.set_label(1, "x"), "NoCell"),
-            ("no label", lambda: [told(index.set_label, label, FIRST) for label in (-1, 2**31, 2**32 + 1)], ["NoLabel"] * 3),
+            ("no label", lambda: [outcome_of(index.set_label, label, FIRST) for label in (-1, 2**31, 2**32 + 1)], ["NoLabel"] * 3),
             ("no label and no cell", lambda: index.set_label(-1, [2]), "NoLabel"),
             ("no cells of a label that is not held", lambda: index.set_label(3, []), "NoSuchLabel"),
             ("what it has", lambda: index.set_label(2, ["04", FIRST]), "NoChange"),
             ("too many pairs", lambda: index.set_label(1, [FIRST, SECOND, THIRD]), "TooManyPairs"),
-            ("what is no cells", lambda: [told(index.set_label, 1, cells) for cells in (None, 1.5, [None], b"04")], ["TypeError"] * 4),
-            ("what is no label", lambda: [told(index.set_label, label, FIRST) for label in (None, 1.5, "1")], ["TypeError"] * 3),
+            ("what is no cells", lambda: [outcome_of(index.set_label, 1, cells) for cells in (None, 1.5, [None], b"04")], ["TypeError"] * 4),
+            ("what is no label", lambda: [outcome_of(index.set_label, label, FIRST) for label in (None, 1.5, "1")], ["TypeError"] * 3),
         ]:
-            count.expect(f"a label that gets {name}", (told(call), shown(index)), (wanted, kept))
+            count.expect(f"a label that gets {name}", (outcome_of(call), shown(index)), (wanted, kept))
         count.expect("several copies become one", (index.set_label(1, "04"), index.of_label(1)), (2, [(FIRST, 1, 1)]))
         count.expect("what it was", (index.done_count(), index.undo(), shown(index)[0]), (2, 2, kept[0]))
         count.expect("other cells", (index.set_label(1, [SECOND, THIRD, SECOND]), index.region(1), len(index)), (4, [SECOND, THIRD], 3))
         count.expect("four siblings", (index.set_label(1, ["04", "0c", "14", "1c"]), index.of_label(1)), (3, [(FACE, 1, 1)]))
-        count.expect("a full journal", (told(index.set_label, 1, FIRST), told(index.set_label, 1, []), index.region(1)), ("JournalFull", "JournalFull", [FACE]))
+        count.expect("a full journal", (outcome_of(index.set_label, 1, FIRST), outcome_of(index.set_label, 1, []), index.region(1)), ("JournalFull", "JournalFull", [FACE]))
         index.forget()
         count.expect("no cells", (index.set_label(1, []), index.of_label(1), index.undo(), index.region(1)), (1, [], 1, [FACE]))
         with index.group():
@@ -82,14 +82,14 @@ def check_set_beside(count):
     """A label gets other cells while its cells are edited: all is done, or Mismatch is raised and nothing."""
     with Meddled() as index:
         index.add(FIRST, 1)
-        count.expect("a pair that changes meanwhile", (told(index.set_label, 1, SECOND), index.count(FIRST, 1), len(index)), ("Mismatch", 2, 1))
+        count.expect("a pair that changes meanwhile", (outcome_of(index.set_label, 1, SECOND), index.count(FIRST, 1), len(index)), ("Mismatch", 2, 1))
     with Index() as index:
         is_over = threading.Event()
 
         def edit():
             while not is_over.is_set():
-                told(index.add, FIRST, 1)
-                told(index.remove, FIRST, 1)
+                outcome_of(index.add, FIRST, 1)
+                outcome_of(index.remove, FIRST, 1)
 
         other, before, interval = threading.Thread(target=edit), set(), sys.getswitchinterval()
         sys.setswitchinterval(1e-5)
@@ -97,7 +97,7 @@ def check_set_beside(count):
         try:
             for step in range(STEPS):
                 wanted = [{SECOND}, {THIRD}, {SECOND, THIRD}][step % 3]
-                found = told(index.set_label, 1, wanted)
+                found = outcome_of(index.set_label, 1, wanted)
                 held = {row.cell for row in index.of_label(1)} - {FIRST}
                 count.expect(f"step {step} beside a thread", (found in (1, 2, 3, 4, "Mismatch", "NoChange"), held), (True, before if found == "Mismatch" else wanted))
                 before = held
@@ -136,7 +136,7 @@ def walk(count, seed):
             label, cells = chance.randrange(4), [writer.cell() for _ in range(chance.randrange(6))]
             if chance.random() < 0.3:
                 rows = [(cell, label, chance.randrange(1, 4)) for cell in cells]
-                if isinstance(told(index.add_all, rows), int):
+                if isinstance(outcome_of(index.add_all, rows), int):
                     for cell, _, copies in rows:
                         held[cell, label] = held.get((cell, label), 0) + copies
                 continue
@@ -146,7 +146,7 @@ def walk(count, seed):
             after = {pair: copies for pair, copies in held.items() if pair[1] != label} | dict.fromkeys(((cell, label) for cell in plain.normal(cells)), 1)
             changed = differences(held, after)
             wanted = "NoSuchLabel" if not cells and not changed else "NoChange" if not changed else "TooManyPairs" if len(after) > most else len(changed)
-            found, before = told(index.set_label, label, cells), held
+            found, before = outcome_of(index.set_label, label, cells), held
             if found == wanted and isinstance(found, int):
                 held = after
                 count.expect(f"the change of step {step} of walk {seed}", index.change(index.done_count()), [(*pair, *counts) for pair, *counts in changed])

@@ -49,7 +49,7 @@ class Whole:
         return LEAF
 
 
-def told(call, *given):
+def outcome_of(call, *given):
     """What a call answers, with all types in it, or all that its refusal tells."""
     try:
         answer = call(*given)
@@ -85,12 +85,12 @@ def check_answers(count, quick, plain):
     """Whatever is asked, both ways answer alike."""
     for place, make in enumerate(cells_given()):
         for name in ("at", "meet", "labels"):
-            count.expect(f"{name} of form {place}: {make()!r}"[:100], told(getattr(quick, name), make()), told(getattr(plain, name), make()))
+            count.expect(f"{name} of form {place}: {make()!r}"[:100], outcome_of(getattr(quick, name), make()), outcome_of(getattr(plain, name), make()))
         pair = make(), 7
-        count.expect(f"count of form {place}: {make()!r}"[:100], told(quick.count, *pair), told(plain.count, *pair))
+        count.expect(f"count of form {place}: {make()!r}"[:100], outcome_of(quick.count, *pair), outcome_of(plain.count, *pair))
     for label in (7, 3, 0, -1, 2**31 - 1, 2**31, 2**32 - 1, 2**32, 2**32 + 7, 2**64, True, 7.0, "7", None, Number(7), Whole()):
-        count.expect(f"count under {label!r}", told(quick.count, FIRST, label), told(plain.count, FIRST, label))
-        count.expect(f"whether {label!r} is held", told(quick.__contains__, ("04", label)), told(plain.__contains__, ("04", label)))
+        count.expect(f"count under {label!r}", outcome_of(quick.count, FIRST, label), outcome_of(plain.count, FIRST, label))
+        count.expect(f"whether {label!r} is held", outcome_of(quick.__contains__, ("04", label)), outcome_of(plain.__contains__, ("04", label)))
 
 
 class Calls:
@@ -153,14 +153,14 @@ def check_wrong(count):
         right = (handle, index._at_handle, Row, 1, 1, 1, 1)
         wrong = [right[:many] for many in range(7)] + [(*right, 1), (*right[:2], int, *right[3:]), (*right[:2], (), *right[3:]), (handle, "1", *right[2:])]
         for given in wrong:
-            count.expect(f"an Asker of {given!r}"[:80], told(type(asker), *given)[0], "TypeError")
+            count.expect(f"an Asker of {given!r}"[:80], outcome_of(type(asker), *given)[0], "TypeError")
         for call, *given in itertools.chain(
             ((call, *given) for call in (asker.count, asker.meet_in, asker.labels_in) for given in ((), (1,), (1, 2, 3))),
             ((call, *given) for call in (asker.meet_in, asker.labels_in) for given in (("1", 1), (1, "1"), (1, 1.5))),
             ((call, *given) for call in (asker.at, asker.meet, asker.labels) for given in ((), (1, 2))),
             ((call, asker) for call in (copy.copy, copy.deepcopy)),
         ):
-            count.expect(f"{call!r} of {given!r}"[:80], told(call, *given)[0], "TypeError")
+            count.expect(f"{call!r} of {given!r}"[:80], outcome_of(call, *given)[0], "TypeError")
 
 
 def check_quick(count):
