@@ -1,21 +1,13 @@
 // Changes that are given entry by entry, rows that are removed at once, labels that get other cells or those that they had, changes that
 // can't be taken back, and what follows from two indexes or from a change on. It ends with 'N passed, M failed', after a line for each wrong answer.
+#include "checks.hpp"
 #include "s2ix.hpp"
 
 #include <iostream>
 
 namespace {
 
-int passed, failed;
-
-void Expect(int line, bool holds) {
-  (holds ? passed : failed)++;
-  if (!holds) std::cout << "changes.cpp:" << line << ": a wrong answer\n";
-}
-
-#define EXPECT(holds) Expect(__LINE__, holds)
-#define REFUSED(why, call) Expect(__LINE__, Thrown([&] { (void)(call); }).status() == (why))
-#define REFUSED_AT(why, where, call) Expect(__LINE__, IsAt(why, where, Thrown([&] { (void)(call); })))
+#define REFUSED_AT(why, where, call) EXPECT(IsAt(why, where, Thrown([&] { (void)(call); })))
 
 // What a call throws.
 template <class Call>
@@ -304,6 +296,5 @@ int main() {
   Differs();
   HoldsLabels();
   Closed();
-  std::cout << passed << " passed, " << failed << " failed\n";
-  return failed == 0 ? 0 : 1;
+  return EndOfChecks();
 }

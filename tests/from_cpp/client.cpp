@@ -1,4 +1,5 @@
 // Calls each method of s2ix.hpp with its exceptions, and ends with 'N passed, M failed', after a line for each wrong answer.
+#include "checks.hpp"
 #include "s2ix.hpp"
 
 #include <iostream>
@@ -7,27 +8,6 @@
 #include <sstream>
 
 namespace {
-
-int passed, failed;
-
-void Expect(int line, bool holds) {
-  (holds ? passed : failed)++;
-  if (!holds) std::cout << "client.cpp:" << line << ": a wrong answer\n";
-}
-
-#define EXPECT(holds) Expect(__LINE__, holds)
-#define REFUSED(status, call) Expect(__LINE__, StatusOf([&] { (void)(call); }) == (status))
-
-// The status with which a call throws; 0 if it doesn't.
-template <class Call>
-std::uint32_t StatusOf(Call call) {
-  try {
-    call();
-  } catch (const s2ix::Error& error) {
-    return error.status();
-  }
-  return S2IX_DONE;
-}
 
 // Two neighbours on face 0, the face, a leaf below the first, and numbers that are no cell's and no label's.
 constexpr std::uint64_t kFirst = 0x0400000000000000, kSecond = 0x0c00000000000000, kFace = 0x1000000000000000, kLeaf = 0x0400000000000001;
@@ -730,6 +710,5 @@ int main() {
   NamedAsInS2<SomeId>();
   NotChangedByVisitors<std::uint64_t>();
   NotChangedByVisitors<SomeId>();
-  std::cout << passed << " passed, " << failed << " failed\n";
-  return failed == 0 ? 0 : 1;
+  return EndOfChecks();
 }

@@ -1,5 +1,6 @@
 // What each form of a list costs: how often the library is asked for it, how much memory it takes, and how much of a vector's memory is touched.
 // It is linked with -Wl,--wrap=CALL for each call that is counted, and ends with 'N passed, M failed', after a line for each wrong cost.
+#include "checks.hpp"
 #include "s2ix.hpp"
 
 #include <sys/resource.h>
@@ -10,15 +11,6 @@
 #include <set>
 
 namespace {
-
-int passed, failed;
-
-void Expect(int line, bool holds) {
-  (holds ? passed : failed)++;
-  if (!holds) std::cout << "costs.cpp:" << line << ": a wrong cost\n";
-}
-
-#define EXPECT(holds) Expect(__LINE__, holds)
 
 // How often the library was asked for lists, and how many bytes a program took by new.
 int asked;
@@ -316,6 +308,5 @@ int main() {
   SetsOnce();
   AsksOnceForWhatIsKnown();
   AsksOnceForEach();
-  std::cout << passed << " passed, " << failed << " failed\n";
-  return failed == 0 ? 0 : 1;
+  return EndOfChecks();
 }

@@ -1,5 +1,6 @@
 // Asks for many leaves and targets at once, beside single calls, and with -DWITH_S2 beside S2's own class. It ends with 'N passed, M failed',
 // after a line for each wrong answer.
+#include "checks.hpp"
 #include "s2ix.hpp"
 
 #include <algorithm>
@@ -15,15 +16,6 @@
 #endif
 
 namespace {
-
-int passed, failed;
-
-void Expect(int line, bool holds) {
-  (holds ? passed : failed)++;
-  if (!holds) std::cout << "each.cpp:" << line << ": a wrong answer\n";
-}
-
-#define EXPECT(holds) Expect(__LINE__, holds)
 
 using Cell = std::uint64_t;
 using List = std::vector<Cell>;
@@ -303,6 +295,5 @@ int main() {
   InEachForm();
   Refused();
   RefusedLater();
-  std::cout << passed << " passed, " << failed << " failed\n";
-  return failed == 0 ? 0 : 1;
+  return EndOfChecks();
 }

@@ -1,5 +1,6 @@
 // Goes along the ranges of an S2CellIndex by its iterators, beside a plain model, and beside S2's own class if its headers are there. It ends
 // with 'N passed, M failed', after a line for each wrong answer.
+#include "checks.hpp"
 #include "s2ix.hpp"
 
 #include <algorithm>
@@ -14,27 +15,6 @@
 #endif
 
 namespace {
-
-int passed, failed;
-
-void Expect(int line, bool holds) {
-  (holds ? passed : failed)++;
-  if (!holds) std::cout << "ranges.cpp:" << line << ": a wrong answer\n";
-}
-
-#define EXPECT(holds) Expect(__LINE__, holds)
-#define REFUSED(status, call) Expect(__LINE__, StatusOf([&] { (void)(call); }) == (status))
-
-// The status with which a call throws; 0 if it doesn't.
-template <class Call>
-std::uint32_t StatusOf(Call call) {
-  try {
-    call();
-  } catch (const s2ix::Error& error) {
-    return error.status();
-  }
-  return S2IX_DONE;
-}
 
 using Cell = std::uint64_t;
 using Pair = std::pair<Cell, int>;
@@ -382,6 +362,5 @@ int main() {
   }
   VisitedInPages();
   Unpositioned();
-  std::cout << passed << " passed, " << failed << " failed\n";
-  return failed == 0 ? 0 : 1;
+  return EndOfChecks();
 }

@@ -2,6 +2,7 @@
 // returned. Threads that have copies wait neither for one another nor for an edit; one that asks alone makes none. Calls of s2ix.h are wrapped
 // by the linker, so that a thread can be held in one, memory for a copy refused, and the sanitizer of threads sees which calls have a handle. It
 // ends with 'N passed, M failed', after a line for each wrong answer.
+#include "checks.hpp"
 #include "s2ix.hpp"
 
 #include <array>
@@ -14,15 +15,6 @@
 #include <thread>
 
 namespace {
-
-std::atomic<int> passed, failed;
-
-void Expect(int line, bool holds) {
-  (holds ? passed : failed)++;
-  if (!holds) std::cout << "readers.cpp:" + std::to_string(line) + ": a wrong answer\n";
-}
-
-#define EXPECT(holds) Expect(__LINE__, holds)
 
 using Handle = ::s2ix_handle*;
 using Number = std::size_t*;
@@ -389,6 +381,5 @@ int main() {
   Refused();
   VisitsOfCopies();
   MovedAndHandedOut();
-  std::cout << passed << " passed, " << failed << " failed\n";
-  return failed == 0 ? 0 : 1;
+  return EndOfChecks();
 }

@@ -1,6 +1,7 @@
 // Shares one index among threads, which query it by a const reference and must get the answers that one thread gets: while nobody edits it,
 // while another thread edits it, and as an S2CellIndex whose adds are not built yet. It ends with 'N passed, M failed', after a line for each
 // wrong answer.
+#include "checks.hpp"
 #include "s2ix.hpp"
 
 #include <atomic>
@@ -11,15 +12,6 @@
 #include <thread>
 
 namespace {
-
-std::atomic<int> passed, failed;
-
-void Expect(int line, bool holds) {
-  (holds ? passed : failed)++;
-  if (!holds) std::cout << "threads.cpp:" + std::to_string(line) + ": a wrong answer\n";
-}
-
-#define EXPECT(holds) Expect(__LINE__, holds)
 
 constexpr std::uint64_t kFirst = 0x0400000000000000, kSecond = 0x0c00000000000000, kFace = 0x1000000000000000, kOther = 0x3000000000000000;
 constexpr int kThreads = 8, kRounds = 4000, kLabels = 1500;
@@ -242,6 +234,5 @@ int main() {
   EditedAtOnce();
   QueriedAsInS2();
   IteratedWhileEdited();
-  std::cout << passed << " passed, " << failed << " failed\n";
-  return failed == 0 ? 0 : 1;
+  return EndOfChecks();
 }

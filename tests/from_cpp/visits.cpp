@@ -1,5 +1,6 @@
 // Asks an S2CellIndex for more than the room that lies ready for an answer, within other queries, from visitors that throw, and as a thread
 // ends. It ends with 'N passed, M failed', after a line for each wrong answer.
+#include "checks.hpp"
 #include "s2ix.hpp"
 
 #include <algorithm>
@@ -14,15 +15,6 @@
 #include <thread>
 
 namespace {
-
-int passed, failed;
-
-void Expect(int line, bool holds) {
-  (holds ? passed : failed)++;
-  if (!holds) std::cout << "visits.cpp:" << line << ": a wrong answer\n";
-}
-
-#define EXPECT(holds) Expect(__LINE__, holds)
 
 using Index = s2ix::S2CellIndex;
 using Cell = std::uint64_t;
@@ -566,6 +558,5 @@ int main() {
   ContentsOfSoughtRanges();
   AsAThreadEnds();
   OnAnotherThread();
-  std::cout << passed << " passed, " << failed << " failed\n";
-  return failed == 0 ? 0 : 1;
+  return EndOfChecks();
 }
