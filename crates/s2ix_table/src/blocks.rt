@@ -99,7 +99,7 @@ fn block_shift(parts: usize) -> u32
 }
 
 // The last part that begins by a leaf, from one on that does. O(k) if it is the k-th from that one.
-fn last_by(starts: &[u64], leaf: u64, from: usize) -> usize
+fn last_start_by(starts: &[u64], leaf: u64, from: usize) -> usize
     requires within { from < length starts.now }
     requires by { slice_index_or starts.now from 0 ≤ leaf }
     ensures { IsLastStart starts.now leaf result }
@@ -123,7 +123,7 @@ fn count_lasts(lasts: &mut [usize], starts: &[u64], size: u64)
     let mut leaf = 1;
     let mut block = 0;
     while block < lasts.len() {
-        part = last_by(starts, leaf, part);
+        part = last_start_by(starts, leaf, part);
         lasts[block] = part;
         leaf += size;
         block += 1;

@@ -147,7 +147,7 @@ pub(crate) fn over_spans(
 }
 
 // Whether the cell of a pair has a number below this one.
-fn is_below(pair: Pair, number: u64) -> bool
+fn is_before_number(pair: Pair, number: u64) -> bool
     ensures { IsTrue result ↔ (rank_of pair < number * 2147483648) }
 {
     pair.cell.raw() < number
@@ -160,7 +160,7 @@ fn count_below(held: &[FlatHeld], number: u64) -> usize
     ensures below { AreBelow (number * 2147483648) (take result held.now) }
     ensures rest { IsCollectionFrom (number * 2147483648) (drop result held.now) }
 {
-    held.partition_point(|h| is_below(h.pair(), number))
+    held.partition_point(|h| is_before_number(h.pair(), number))
 }
 
 // The tables of light pairs over the leaves from one number up to another, of at most `max_part_len` pairs each, if they can be cut. O(n) for n

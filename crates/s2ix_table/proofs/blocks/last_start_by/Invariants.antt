@@ -1,5 +1,5 @@
 use Rattle.std.proofs.Common.{◌-◌, ◌<◌, ◌≤◌, length, slice_index_or}
-use Rattle.s2ix_table.proofs.blocks.last_by.Given as goal
+use Rattle.s2ix_table.proofs.blocks.last_start_by.Given as goal
 
 abbrev pub invariant-loop-part : goal.invariant-loop-part
 invariant-loop-part l = (l.part < length l.starts) × (slice_index_or l.starts l.part 0 ≤ l.leaf)
