@@ -62,6 +62,11 @@ class Crate:
                 groups += [chosen[: len(chosen) // 2], chosen[len(chosen) // 2 :]]
 
 
+def is_same(one, other):
+    """Whether two names may be those of one function, which a body names with its type or module or without."""
+    return one == other or one.endswith(f"::{other}") or other.endswith(f"::{one}")
+
+
 def choose(bodies):
     """Those of the bodies that one check can try: no two of one function, nor of one place."""
     chosen, functions, texts = [], set(), {}
@@ -69,7 +74,7 @@ def choose(bodies):
         return bodies[:1]
     for body in bodies:
         applied = None if body.is_alone else body.applied(texts)
-        if applied is not None and not functions & {*body.functions}:
+        if applied is not None and not any(is_same(one, other) for one in functions for other in body.functions):
             chosen, functions, texts = [*chosen, body], functions | {*body.functions}, applied
     return chosen
 
