@@ -166,7 +166,7 @@ uint32_t s2ix_resume(s2ix_handle *handle, const uint8_t *dump, size_t dump_len, 
 
 /* Opens `copy` on a new store with the same pairs and limits, and with nothing to undo or redo. If the call is not refused, it
    frees the store that `copy` had. The two stores share memory, and may be used at once on different threads. O(1), besides the freeing.
-   The first edit, undo or redo of one of them then takes O(p) more, for the p parts of some hundred pairs that a store is kept in.
+   The first edit, undo, redo or s2ix_apply of one of them then takes O(p) more, for the p parts of some hundred pairs that a store is kept in.
    S2IX_CLOSED, S2IX_OUT_OF_MEMORY. */
 uint32_t s2ix_copy(s2ix_handle *handle, s2ix_handle *copy);
 
@@ -337,7 +337,8 @@ uint32_t s2ix_change(s2ix_handle *handle, uint32_t change, s2ix_entry *entries, 
    S2IX_CLOSED, also if only one of the handles is closed; S2IX_NO_ROOM, S2IX_OUT_OF_MEMORY. */
 uint32_t s2ix_difference(s2ix_handle *before, s2ix_handle *after, s2ix_entry *entries, size_t room, size_t *number);
 
-/* On how many faces, 0 to 6, the last accepted edit, undo, redo or s2ix_apply changed pairs. O(1). S2IX_CLOSED. */
+/* On how many faces, 0 to 6, the last accepted edit (s2ix_record too), undo, redo or s2ix_apply changed pairs; 0 before the first of these.
+   O(1). S2IX_CLOSED. */
 uint32_t s2ix_faces_rebuilt(s2ix_handle *handle, size_t *number);
 
 /* How many ranges of leaves there are over which the same pairs lie: at least 1. O(1). S2IX_CLOSED. */

@@ -93,8 +93,8 @@ class Index {
   ~Index() = default;
 
   // An index that starts from what this one holds, with nothing to undo or redo. The two share memory, and may be used side by side on
-  // different threads. O(1); the first edit, undo or redo of one of them then takes O(p) more, for the p parts of some hundred pairs that a
-  // store is kept in. S2IX_CLOSED.
+  // different threads. O(1); the first edit, undo, redo or apply of one of them then takes O(p) more, for the p parts of some hundred pairs
+  // that a store is kept in. S2IX_CLOSED.
   [[nodiscard]] Index copy() const {
     Index index{Closed()};
     detail::check(handle_.ask([&](::s2ix_handle* handle) { return s2ix_copy(handle, index.handle_.unlocked()); }));
@@ -466,7 +466,8 @@ class Index {
     return entries;
   }
 
-  // On how many faces, 0 to 6, the last accepted edit, undo, redo or apply changed pairs. O(1). S2IX_CLOSED.
+  // On how many faces, 0 to 6, the last accepted edit (record too), undo, redo or apply changed pairs; 0 before the first of these. O(1).
+  // S2IX_CLOSED.
   [[nodiscard]] std::size_t faces_rebuilt() const { return number<Of::changes>(s2ix_faces_rebuilt); }
 
   // How many ranges of leaves there are over which the same pairs lie: at least 1. O(1). S2IX_CLOSED.

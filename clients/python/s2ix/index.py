@@ -159,8 +159,8 @@ class Index(Edits):
 
     def copy(self) -> Index:
         """An index of its own that starts from what is held, under the same limits, with nothing to undo or redo. They share memory,
-        and calls on one need not wait for the other. O(1); the first edit, undo or redo of one of them then takes O(p) more, for the p parts
-        of some hundred pairs that an index is kept in. Raises Closed or OutOfMemory.
+        and calls on one need not wait for the other. O(1); the first edit, undo, redo or `apply` of one of them then takes O(p) more, for
+        the p parts of some hundred pairs that an index is kept in. Raises Closed or OutOfMemory.
 
         >>> index = Index()
         >>> other = index.copy()
@@ -560,7 +560,8 @@ class Index(Edits):
         return self._number_of(self._calls.s2ix_undone_count)
 
     def faces_rebuilt(self) -> int:
-        """On how many faces, 0 to 6, the last accepted edit, undo, redo or `apply` changed pairs. O(1). Raises Closed."""
+        """On how many faces, 0 to 6, the last accepted edit (`record` too), undo, redo or `apply` changed pairs; 0 before the first of
+        these. O(1). Raises Closed."""
         return self._number_of(self._calls.s2ix_faces_rebuilt)
 
     def range_count(self) -> int:

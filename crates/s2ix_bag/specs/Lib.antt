@@ -1,6 +1,8 @@
 pub use Rattle.s2id_core.specs.CellId
 pub use Rattle.s2ix_bag_lists.specs.Apply
 pub use Rattle.s2ix_bag_lists.specs.Entries
+pub use Rattle.s2ix_bag_lists.specs.Faces
+pub use Rattle.s2ix_bag_lists.specs.Parts
 pub use Rattle.s2ix_bag_lists.specs.Revert
 pub use Rattle.s2ix_bag_pairs.specs.Change
 pub use Rattle.s2ix_bag_pairs.specs.Collection

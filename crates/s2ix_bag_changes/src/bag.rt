@@ -47,8 +47,9 @@ impl Bag {
         }
     }
 
-    /// For tests, which need many parts of few pairs: the bag that holds no pair, and that is cut into parts of at most `max_part_len` pairs
-    /// each, but at least one, as it grows. Other bags have parts of at most 512. It does not allocate.
+    /// The bag that holds no pair. As it grows, it is cut into parts of at most `max_part_len` pairs each, but at least one; other bags have
+    /// parts of at most 512. In shorter parts a change copies fewer pairs, but more parts are to be counted and searched. It does not
+    /// allocate.
     pub fn in_parts_of(limits: Limits, max_part_len: usize) -> Bag
         ensures { result ≡ record { limits = limits; held = [] } }
     {
@@ -173,9 +174,9 @@ impl Bag {
     }
 
     /// The bag that a change makes of this one: each pair of the change has its count after, and no other count differs. Before it
-    /// allocates, it tests the three refusals in their order, each over all entries. `OutOfMemory` if a growth is refused. The
-    /// parts without an entry are shared, the others copied: O(p + k + m log n) for m entries, n pairs in p parts and the k pairs of the
-    /// entries' parts.
+    /// allocates, it tests the three refusals in their order, each over all entries. `OutOfMemory` if a growth is refused, or if a list, a
+    /// bundle or a part is shared too often. The parts with entries are copied, and so is a part on either side of one if the two are joined,
+    /// as short ones are; the other parts are shared: O(p + k + m log n) for m entries, n pairs in p parts and the k pairs of the copied parts.
     pub fn applied(&self, alloc: Global, change: &Change) -> Result<Bag, ApplyError>
         ensures limits { IfOk result (λ bag. bag.limits ≡ self.now.limits) }
         ensures held { IfOk result (λ bag. bag.held ≡ changed self.now.held change.now) }
@@ -213,9 +214,10 @@ impl Bag {
     }
 
     /// The bag with a change taken back: the difference (the count after less the count before) is subtracted from the count of each of its
-    /// pairs, and no other count differs. It refuses what [`Bag::reverting`] refuses, and returns `OutOfMemory` if a growth is refused. The
-    /// parts without an entry are shared, the others copied: O(p + k + m log n) for m entries, n pairs in p parts and the k pairs of the
-    /// entries' parts.
+    /// pairs, and no other count differs. It refuses what [`Bag::reverting`] refuses, and returns `OutOfMemory` if a growth is refused, or if
+    /// a list, a bundle or a part is shared too often. The parts with entries are copied, and so is a part on either side of one if the two are
+    /// joined, as short ones are; the other parts are shared: O(p + k + m log n) for m entries, n pairs in p parts and the k pairs of the
+    /// copied parts.
     pub fn reverted(&self, alloc: Global, change: &Change) -> Result<Bag, RevertError>
         ensures limits { IfOk result (λ bag. bag.limits ≡ self.now.limits) }
         ensures held { IfOk result (λ bag. bag.held ≡ taken_back self.now.held change.now) }

@@ -1,8 +1,8 @@
 -- Lists in bundles: where each bundle starts, and lists cut within a bundle.
-use Rattle.std.proofs.Common.{◌≡◌, ℕ, zero, suc, ◌+◌, ◌-◌, ◌<◌, ◌≤◌, List, [], ◌∷◌, ◌++◌, take, drop, get_or, length, refl, sym, ap, ◌∙◌, ⊎_elim, arith, append_assoc, append-nil, length-append}
+use Rattle.std.proofs.Common.{◌≡◌, ℕ, zero, suc, ◌+◌, ◌-◌, ◌<◌, ◌≤◌, List, [], ◌∷◌, ◌++◌, take, drop, get_or, length, reverse, refl, sym, ap, ◌∙◌, ⊎_elim, arith, append_assoc, append-nil, length-append}
 use Rattle.std.proofs.lemmas.Bool.{cases_lt}
 use Rattle.std.proofs.lemmas.Grind.{flat_map-append}
-use Rattle.std.proofs.lemmas.List.{take-append-le, drop-append-le, take_more, drop_all}
+use Rattle.std.proofs.lemmas.List.{take-append-le, drop-append-le, take-append-drop, take_more, drop_all, reverse-append}
 use Rattle.std.proofs.lemmas.List.Concat.{get_or-flat_map}
 use Rattle.std.proofs.Math.Seq.{take-append-add, drop-append-add}
 use Rattle.s2ix_bag_pairs.specs.Collection.{Collection}
@@ -49,7 +49,7 @@ starts_count starts gs counted = ap (λ (x : List ℕ). length x) counted ∙ le
 
 -- ---- the bundle that a list is in
 
-length_upto : (gs : List (List Collection)) (i : ℕ) → i < length gs
+pub length_upto : (gs : List (List Collection)) (i : ℕ) → i < length gs
     → length (lists_of (take (i + 1) gs)) ≡ length (lists_of (take i gs)) + length (get_or gs i [])
 length_upto gs i within =
     ap (λ (x : List (List Collection)). length (lists_of x)) (take_more gs i [] within)
@@ -174,3 +174,33 @@ splice gs one two three earlier later first end i j front_start back_start befor
     ∙ ap (λ (x : List Collection). front ++ x) middle_is)
     ∙ append_assoc front (before ++ (lists ++ behind)) (lists_of later)
     ∙ spliced_is front before lists behind (lists_of later) (take first (lists_of gs)) (drop end (lists_of gs)) front_is back_is
+
+-- ---- lists cut into bundles, from the last bundle to the first
+
+reversed_push : (gs : List (List Collection)) (g : List Collection) → lists_of (reverse (gs ++ g ∷ [])) ≡ g ++ lists_of (reverse gs)
+reversed_push gs g = ap (λ (x : List (List Collection)). lists_of x) (reverse-append gs (g ∷ []))
+
+-- one bundle more is cut off
+pub cut_more : (cut new : List (List Collection)) (lists rest left own : List Collection) (at : ℕ) → rest ++ lists_of (reverse cut) ≡ lists
+    → left ≡ take at rest → own ≡ drop at rest → new ≡ cut ++ own ∷ [] → left ++ lists_of (reverse new) ≡ lists
+cut_more cut new lists rest left own at was left_is own_is new_is =
+    let back = lists_of (reverse cut) in
+    ap (λ (x : List (List Collection)). left ++ lists_of (reverse x)) new_is
+    ∙ ap (λ (x : List Collection). left ++ x) (reversed_push cut own)
+    ∙ sym (append_assoc left own back)
+    ∙ ap (λ (x : List Collection). (x ++ own) ++ back) left_is
+    ∙ ap (λ (x : List Collection). (take at rest ++ x) ++ back) own_is
+    ∙ ap (λ (x : List Collection). x ++ back) (take-append-drop at rest)
+    ∙ was
+
+-- the last bundle that was cut off comes next
+pub put_back : (gs new cut left : List (List Collection)) (lists : List Collection) (g : List Collection)
+    → lists_of gs ++ lists_of (reverse cut) ≡ lists → cut ≡ left ++ g ∷ [] → new ≡ gs ++ g ∷ []
+    → lists_of new ++ lists_of (reverse left) ≡ lists
+put_back gs new cut left lists g was cut_is new_is =
+    ap (λ (x : List (List Collection)). lists_of x ++ lists_of (reverse left)) new_is
+    ∙ ap (λ (x : List Collection). x ++ lists_of (reverse left)) (lists_push gs g)
+    ∙ append_assoc (lists_of gs) g (lists_of (reverse left))
+    ∙ ap (λ (x : List Collection). lists_of gs ++ x) (sym (reversed_push left g))
+    ∙ ap (λ (x : List (List Collection)). lists_of gs ++ lists_of (reverse x)) (sym cut_is)
+    ∙ was

@@ -1,10 +1,9 @@
 -- What a face holds after a change, and the parts of the lists of the faces.
 use Rattle.std.proofs.Common.{◌≡◌, ℕ, zero, suc, ◌+◌, ◌-◌, ◌<◌, ◌≤◌, List, [], ◌∷◌, ◌++◌, take, drop, get_or, set, length, refl, sym, ap, ◌∙◌, arith, length-append}
-use Rattle.std.proofs.lemmas.List.{length-drop}
+use Rattle.std.proofs.lemmas.List.{length-drop, drop-drop}
 use Rattle.s2ix_bag_pairs.specs.Collection.{Collection}
 use Rattle.s2ix_bag_pairs.specs.Change.{IsChangeListFrom, changed}
 use Rattle.s2ix_bag_pairs.specs.declared.pair.Entry.{Entry}
-use Rattle.s2ix_bag_pairs.specs.declared.pair.Held.{Held}
 use Rattle.s2ix_bag_pairs.proofs.Changes.{changed-append}
 use Rattle.s2ix_bag_lists.specs.Faces.{AreEntriesBelow, all_of, face_start}
 use Rattle.s2ix_bag_lists.specs.Parts.{IsPartAt}
@@ -48,15 +47,6 @@ own_few first es face ls rest k six was below later =
 
 -- ---- parts of parts
 
-drop_none : (i : ℕ) → drop {A = Held} i [] ≡ []
-drop_none zero = refl
-drop_none (suc i) = refl
-
-drop_both : (b i : ℕ) (hs : Collection) → drop (b + i) hs ≡ drop i (drop b hs)
-drop_both zero i hs = let same : 0 + i ≡ i = omega arith in ap (λ (n : ℕ). drop n hs) same
-drop_both (suc b) i [] = let same : suc b + i ≡ suc (b + i) = omega arith in ap (λ (n : ℕ). drop {A = Held} n []) same ∙ sym (drop_none i)
-drop_both (suc b) i (h ∷ hs) = let same : suc b + i ≡ suc (b + i) = omega arith in ap (λ (n : ℕ). drop n (h ∷ hs)) same ∙ drop_both b i hs
-
 take_inside : (m i n : ℕ) (hs : Collection) → i + n ≤ m → take n (drop i (take m hs)) ≡ take n (drop i hs)
 take_inside zero zero zero hs le = refl
 take_inside zero zero (suc n) hs le = absurd (omega arith)
@@ -83,7 +73,7 @@ part_inside held own part place before inner begins is inside =
     record {
       begins = omega (arith, begins, inside.begins);
       ends = omega (arith, begins, inside.ends);
-      part = ap (λ (hs : Collection). take n hs) (drop_both before inner held)
+      part = ap (λ (hs : Collection). take n hs) (sym (drop-drop inner before held))
           ∙ sym (take_inside (length own) inner n rest fits)
           ∙ ap (λ (hs : Collection). take n (drop inner hs)) is
           ∙ inside.part;

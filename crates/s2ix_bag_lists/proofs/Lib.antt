@@ -19,5 +19,6 @@ pub mod Making
 pub mod Mismatches
 pub mod FaceParts
 pub mod Bundles
+pub mod BundleSearch
 pub mod Views
 pub mod Windows

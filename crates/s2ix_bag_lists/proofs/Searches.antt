@@ -1,9 +1,11 @@
 -- A search among parts by their first pairs.
 use Rattle.std.proofs.Common.{◌≡◌, ℕ, zero, suc, ◌+◌, ◌<◌, ◌≤◌, List, [], ◌∷◌, ◌++◌, take, drop, get_or, length, slice_get, Some, sym, ap, ◌∙◌, subst, arith}
+use Rattle.std.proofs.lemmas.List.{get_or-take, get_or-drop, drop_all}
 use Rattle.s2ix_bag_pairs.specs.Collection.{Collection, IsCollection, IsCollectionFrom, AreBelow}
 use Rattle.s2ix_bag_pairs.specs.Pair.{rank_of}
 use Rattle.s2ix_bag_pairs.specs.declared.pair.Held.{Held}
 use Rattle.s2ix_bag_lists.specs.Faces.{all_of}
+use Rattle.s2ix_bag_lists.specs.Parts.{AreAround}
 use Rattle.s2ix_bag_lists.proofs.Joined.{below_more}
 use Rattle.s2ix_bag_lists.proofs.Joins.{all_split, front_below, back_rises}
 
@@ -22,6 +24,16 @@ pub record Narrowed (ps : List Collection) (rank low high : ℕ) : Type 0 where
   pub within : high ≤ length ps
   pub below : AreBelow rank (all_of (take low ps))
   pub rest : IsCollectionFrom (rank + 1) (all_of (drop high ps))
+
+-- all parts
+pub narrowed_start : (ps : List Collection) (rank low high : ℕ) → low ≡ 0 → high ≡ length ps → 0 < high → Narrowed ps rank low high
+narrowed_start ps rank zero high none all some = record {
+  some = some;
+  within = omega (arith, all);
+  below = tt;
+  rest = subst (λ (x : List Collection). IsCollectionFrom (rank + 1) (all_of x)) (sym (drop_all high ps (omega (arith, all)))) tt;
+}
+narrowed_start ps rank (suc low) high none all some = absurd (omega (arith, none))
 
 pub narrowed_low : (ps : List Collection) (rank low high middle : ℕ) (h : Held) → IsCollection (all_of ps) → Narrowed ps rank low high
     → middle < high → slice_get (get_or ps middle []) 0 ≡ Some h → rank_of h.pair ≤ rank → Narrowed ps rank middle high
@@ -49,3 +61,12 @@ narrowed_high ps rank low high middle h rises was low_lt lt is after =
       below = was.below;
       rest = subst (λ (x : Collection). IsCollectionFrom (rank + 1) x) (sym begins.1) (omega (arith, after), back.1, back.2);
     }
+
+-- a part is read among those that follow the first ones
+pub read_around : (ps own : List Collection) (rank before place i : ℕ) → AreAround ps rank before own → place ≡ before + i → i < length own
+    → get_or own i [] ≡ get_or ps place []
+read_around ps own rank before place i around is within =
+    ap (λ (x : List Collection). get_or x i []) around.follow
+    ∙ get_or-take (length own) (drop before ps) i [] within
+    ∙ get_or-drop before ps i []
+    ∙ ap (λ (k : ℕ). get_or ps k []) (sym is)

@@ -1,6 +1,6 @@
 -- Some of the lists of a list of lists.
 use Rattle.std.proofs.Common.{◌≡◌, ℕ, zero, suc, ◌+◌, ◌-◌, ◌<◌, ◌≤◌, List, [], ◌∷◌, ◌++◌, take, drop, get_or, length, min, refl, sym, ap, ◌∙◌, arith}
-use Rattle.std.proofs.lemmas.List.{get_or-take, get_or-drop, length-take, length-drop, take_all, drop_all, take-append-drop}
+use Rattle.std.proofs.lemmas.List.{get_or-take, get_or-drop, length-take, length-drop, take_all, drop_all, take-append-drop, take-take, drop-drop, drop-take}
 use Rattle.std.proofs.Math.Seq.{drop-cons}
 use Rattle.s2ix_bag_pairs.specs.Collection.{Collection}
 
@@ -27,47 +27,28 @@ view_within first end place ls lt =
     let left = length-drop first ls in
     omega (arith, lt, some, left)
 
-take_take : (m n : ℕ) (ls : List Collection) → m ≤ n → take m ls ≡ take m (take n ls)
-take_take zero n ls le = refl
-take_take (suc m) zero ls le = absurd (omega arith)
-take_take (suc m) (suc n) [] le = refl
-take_take (suc m) (suc n) (l ∷ ls) le = ap (λ (x : List Collection). l ∷ x) (take_take m n ls (omega arith))
-
-drop_none : (n : ℕ) → drop {A = Collection} n [] ≡ []
-drop_none zero = refl
-drop_none (suc n) = refl
-
 take_none : (n : ℕ) → take {A = Collection} n [] ≡ []
 take_none zero = refl
 take_none (suc n) = refl
 
-drop_take : (k n : ℕ) (ls : List Collection) → k ≤ n → take (n - k) (drop k ls) ≡ drop k (take n ls)
-drop_take zero n ls le = let same : n - 0 ≡ n = omega arith in ap (λ (m : ℕ). take m ls) same
-drop_take (suc k) zero ls le = absurd (omega arith)
-drop_take (suc k) (suc n) [] le = take_none (suc n - suc k)
-drop_take (suc k) (suc n) (l ∷ ls) le =
-    let same : suc n - suc k ≡ n - k = omega arith in
-    ap (λ (m : ℕ). take m (drop k ls)) same ∙ drop_take k n ls (omega arith)
-
-drop_both : (first k : ℕ) (ls : List Collection) → drop (first + k) ls ≡ drop k (drop first ls)
-drop_both zero k ls = let same : 0 + k ≡ k = omega arith in ap (λ (n : ℕ). drop n ls) same
-drop_both (suc first) k [] = drop_none (suc first + k) ∙ sym (drop_none k)
-drop_both (suc first) k (l ∷ ls) =
-    let same : suc first + k ≡ suc (first + k) = omega arith in ap (λ (n : ℕ). drop n (l ∷ ls)) same ∙ drop_both first k ls
+pub drop_take : (k n : ℕ) (ls : List Collection) → k ≤ n → take (n - k) (drop k ls) ≡ drop k (take n ls)
+drop_take k n ls le =
+    let same : k + (n - k) ≡ n = omega (arith, le) in
+    sym (drop-take k (n - k) ls) ∙ ap (λ (m : ℕ). drop k (take m ls)) same
 
 pub view_front : (first end place : ℕ) (ls : List Collection) → place ≤ length (take (end - first) (drop first ls))
     → take (first + place - first) (drop first ls) ≡ take place (take (end - first) (drop first ls))
 view_front first end place ls le =
     let same : first + place - first ≡ place = omega arith in
     ap (λ (n : ℕ). take n (drop first ls)) same
-    ∙ take_take place (end - first) (drop first ls) (omega (arith, le, short_take (end - first) (drop first ls)))
+    ∙ sym (take-take place (end - first) (drop first ls) (omega (arith, le, short_take (end - first) (drop first ls))))
 
 pub view_back : (first end place : ℕ) (ls : List Collection) → place ≤ length (take (end - first) (drop first ls))
     → take (end - (first + place)) (drop (first + place) ls) ≡ drop place (take (end - first) (drop first ls))
 view_back first end place ls le =
     let same : end - (first + place) ≡ end - first - place = omega arith in
     ap (λ (n : ℕ). take n (drop (first + place) ls)) same
-    ∙ ap (λ (x : List Collection). take (end - first - place) x) (drop_both first place ls)
+    ∙ ap (λ (x : List Collection). take (end - first - place) x) (sym (drop-drop place first ls))
     ∙ drop_take place (end - first) (drop first ls) (omega (arith, le, short_take (end - first) (drop first ls)))
 
 pub view_cons : (first end : ℕ) (ls : List Collection) → first < end → first < length ls
@@ -97,10 +78,21 @@ view_bundle first end last ls own is le own_is =
     let rest : take (end - (first + k)) (drop (first + k) ls) ≡ drop k (take (end - first) (drop first ls)) =
     let same : end - (first + k) ≡ end - first - k = omega arith in
     ap (λ (n : ℕ). take n (drop (first + k) ls)) same
-    ∙ ap (λ (x : List Collection). take (end - first - k) x) (drop_both first k ls)
+    ∙ ap (λ (x : List Collection). take (end - first - k) x) (sym (drop-drop k first ls))
     ∙ drop_take k (end - first) (drop first ls) short in
     sym
     (ap (λ (x : List Collection). own ++ x) rest
     ∙ ap (λ (x : List Collection). x ++ drop k (take (end - first) (drop first ls)))
-    (own_is ∙ take_take k (end - first) (drop first ls) short)
+    (own_is ∙ sym (take-take k (end - first) (drop first ls) short))
     ∙ take-append-drop k (take (end - first) (drop first ls)))
+
+-- fewer of the lists that a view shows
+pub view_inner : (first end low high : ℕ) (ls : List Collection) → first ≤ low → low ≤ high → high ≤ end
+    → take (high - low) (drop low ls) ≡ take (high - low) (drop (low - first) (take (end - first) (drop first ls)))
+view_inner first end low high ls from some up_to =
+    let k = high - low in
+    let there : low ≡ first + (low - first) = omega (arith, from) in
+    ap (λ (n : ℕ). take k (drop n ls)) there
+    ∙ ap (λ (x : List Collection). take k x) (sym (drop-drop (low - first) first ls))
+    ∙ sym (take-take k (end - first - (low - first)) (drop (low - first) (drop first ls)) (omega (arith, from, some, up_to)))
+    ∙ ap (λ (x : List Collection). take k x) (drop_take (low - first) (end - first) (drop first ls) (omega (arith, from, some, up_to)))

@@ -61,7 +61,7 @@ last_rank n (suc i) (e ∷ f ∷ es) d rise last = (
 
 -- ---- the parts of a window
 
--- what parts_after asks of the parts of a window and of the entries
+-- what merged_parts asks of the parts of a window and of the entries
 pub record IsInside (own : List Collection) (es : List Entry) : Type 0 where
   pub rises : IsCollection (all_of own)
   pub filled : AreFilled own
@@ -119,6 +119,34 @@ pub window_filled : (ps made : List Collection) (first end : ℕ) → AreFilled 
 window_filled ps made first end filled made_filled =
     filled_append (take first ps) (made ++ drop end ps) (filled_take first ps filled)
     (filled_append made (drop end ps) made_filled (filled_drop end ps filled))
+
+-- the same where the parts are shown, and split twice
+pub window_own : (ps shown up_to own : List Collection) (held : Collection) (es : List Entry) (first end : ℕ) → shown ≡ ps
+    → up_to ≡ take end shown → own ≡ drop first up_to → all_of ps ≡ held → IsCollection (all_of ps) → AreFilled ps → AreBefore held es
+    → IsWindow shown es first end → IsInside own es
+window_own ps shown up_to own held es first end shown_is up_to_is own_is all rises filled before is =
+    subst (λ (x : List Collection). IsInside x es)
+    (sym (own_is ∙ ap (λ (x : List Collection). drop first x) (up_to_is ∙ ap (λ (x : List Collection). take end x) shown_is)))
+    (window_inside ps es first end rises filled (subst (λ (hs : Collection). AreBefore hs es) (sym all) before)
+    (subst (λ (x : List Collection). IsWindow x es first end) shown_is is))
+
+-- what all parts are once those of a window are changed
+pub record IsSpliced (ps made : List Collection) (held : Collection) (es : List Entry) (first end : ℕ) : Type 0 where
+  pub all : all_of (take first ps ++ (made ++ drop end ps)) ≡ changed held es
+  pub filled : AreFilled (take first ps ++ (made ++ drop end ps))
+
+pub window_spliced : (ps shown up_to own made : List Collection) (held : Collection) (es : List Entry) (first end : ℕ) → shown ≡ ps
+    → up_to ≡ take end shown → own ≡ drop first up_to → all_of ps ≡ held → AreFilled ps → AreFilled made
+    → all_of made ≡ changed (all_of own) es → IsWindow shown es first end → IsSpliced ps made held es first end
+window_spliced ps shown up_to own made held es first end shown_is up_to_is own_is all filled made_filled made_is is =
+    let own_parts : own ≡ drop first (take end ps) =
+    own_is ∙ ap (λ (x : List Collection). drop first x) (up_to_is ∙ ap (λ (x : List Collection). take end x) shown_is) in
+    record {
+      all = window_changed ps made es first end (subst (λ (x : List Collection). IsWindow x es first end) shown_is is)
+          (made_is ∙ ap (λ (x : List Collection). changed (all_of x) es) own_parts)
+          ∙ ap (λ (hs : Collection). changed hs es) all;
+      filled = window_filled ps made first end filled made_filled;
+    }
 
 -- each part has a pair, so there are no more parts than pairs
 pub filled_count : (ps : List Collection) → AreFilled ps → length ps ≤ length (all_of ps)

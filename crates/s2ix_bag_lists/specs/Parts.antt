@@ -5,7 +5,7 @@ use Rattle.s2ix_bag_pairs.specs.Change.{IsChangeListFrom}
 use Rattle.s2ix_bag_pairs.specs.declared.pair.Entry.{Entry}
 use Rattle.s2ix_bag_lists.specs.Faces.{AreEntriesBelow, all_of}
 
--- how many pairs come before each part, where n come before the first
+-- how many pairs come before each part, if n come before the first
 abbrev pub starts_from : ℕ → List Collection → List ℕ
 starts_from n [] = []
 starts_from n (part ∷ parts) = n ∷ starts_from (n + length part) parts
@@ -48,3 +48,11 @@ pub record IsWindow (parts : List Collection) (es : List Entry) (first end : ℕ
   pub back : IsCollectionFrom high (all_of (drop end parts))
   pub entries_from : IsChangeListFrom low es
   pub entries_below : AreEntriesBelow high es
+
+-- the parts behind the first `before` ones, in one of which a pair of this rank is, or would go
+pub record AreAround (parts : List Collection) (rank before : ℕ) (own : List Collection) : Type 0 where
+  pub some : 0 < length own
+  pub within : before + length own ≤ length parts
+  pub follow : own ≡ take (length own) (drop before parts)
+  pub below : AreBelow rank (all_of (take before parts))
+  pub rest : IsCollectionFrom (rank + 1) (all_of (drop (before + length own) parts))

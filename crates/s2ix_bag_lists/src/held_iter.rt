@@ -1,4 +1,4 @@
-ghost use Rattle.std.specs.Prelude.{◌≡◌, ◌++◌, ◌<◌, ◌≤◌, [], ◌∷◌, None, length, IfSome};
+ghost use Rattle.std.specs.Prelude.{◌≡◌, ◌++◌, ◌<◌, ◌≤◌, [], ◌∷◌, None, length, take, IfSome};
 ghost use Rattle.std.specs.Iterator.{YieldsFirst, item_count};
 ghost use Rattle.s2ix_bag_lists.specs.Faces.{all_of};
 ghost use Rattle.s2ix_bag_lists.specs.Parts.{AreFilled};
@@ -134,6 +134,18 @@ fn next_pairs<'a>(
     }
 }
 
+// How many parts come before the first that may have a label. O(k) for the answer k.
+fn parts_without(parts: &[HeldList], label: Label) -> usize
+    ensures within { result ≤ length parts.now }
+    ensures without { held_of label (all_of (take result parts.now)) ≡ [] }
+{
+    let mut count = 0;
+    while count < parts.len() && !parts[count].may_have(label) {
+        count += 1;
+    }
+    count
+}
+
 // The pairs of the next part that may have a label, past those that have none with it; no pairs if there is none.
 fn next_pairs_with<'a>(
     label: Label,
@@ -151,12 +163,18 @@ fn next_pairs_with<'a>(
     ensures shorter { length (result.now ++ (all_of parts.new.now ++ held_from bundles.new later.new.now))
         ≤ length (all_of parts.old.now ++ held_from bundles.old later.old.now) }
 {
-    while let Some(part) = next_part(parts, bundles, later) {
-        if part.may_have(label) {
+    loop {
+        let (_, rest) = parts.split_at(parts_without(parts, label));
+        if let Some((part, others)) = rest.split_first() {
+            *parts = others;
             return part.as_slice();
         }
+        *parts = rest;
+        match next_bundle(bundles, later) {
+            Some(next) => *parts = next,
+            None => return &[],
+        }
     }
-    &[]
 }
 
 // The first of some pairs with a label, past those before it.

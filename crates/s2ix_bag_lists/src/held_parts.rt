@@ -111,6 +111,7 @@ impl HeldParts {
         HeldParts::sharing(alloc, PartList::new(alloc, parts)?, max_part_len)
     }
 
+    // What a list of parts holds. `OutOfMemory` if a growth is refused.
     fn sharing(alloc: Global, list: PartList, max_part_len: usize) -> Result<HeldParts, OutOfMemory>
         ensures { IfOk result (λ held. held ≡ list) }
     {
@@ -203,9 +204,11 @@ impl HeldParts {
         Ok(all)
     }
 
-    /// What a change that has the right counts before makes of the pairs. Without an entry the list is shared, else its parts without an entry
-    /// are. O(p + m + k) for p parts, m entries and the k pairs of their parts; but it counts one more user only of each bundle of parts, and
-    /// of the parts from the first entry's to the last entry's, with those in the same bundles. `OutOfMemory` if a growth is refused.
+    /// What a change that has the right counts before makes of the pairs. Without an entry the list is shared. Else the parts with entries are
+    /// copied, and so is a part on either side of one if the two are joined, as short ones are; the other parts are shared. O(p + m log p + k)
+    /// for p parts, m entries and the k pairs of the copied parts. It counts one more owner only of each bundle of parts, and of the parts from
+    /// the first entry's to the last entry's, with those in the same bundles. `OutOfMemory` if a growth is refused, or if the list, a part or a
+    /// bundle is shared too often.
     pub fn after(&self, alloc: Global, entries: &[Entry]) -> Result<HeldParts, OutOfMemory>
         requires entries_rise { IsChangeList entries.now }
         requires before { AreBefore self.now entries.now }
@@ -228,13 +231,23 @@ impl HeldParts {
     }
 }
 
-/// Appends the pairs of all parts.
+// Appends the pairs of some parts, one after the other. O(n) for n pairs.
+fn append_pairs(all: &mut Vec<FlatHeld>, parts: &[HeldList]) -> Result<(), OutOfMemory>
+    ensures { OnOk result (all.new.items ≡ all.old.items ++ all_of parts.now) }
+{
+    for part in parts {
+        all.extend_from_slice(part.as_slice())?;
+    }
+    Ok(())
+}
+
+/// Appends the pairs of all parts, one after the other. O(n) for n pairs. `OutOfMemory` if a growth is refused.
 pub(crate) fn append_parts(all: &mut Vec<FlatHeld>, parts: ListsView<'_>) -> Result<(), OutOfMemory>
     ensures { OnOk result (all.new.items ≡ all.old.items ++ all_of (lists_in parts.entry)) }
 {
     let mut rest = parts;
-    while let Some((part, later)) = rest.split_first() {
-        all.extend_from_slice(part.as_slice())?;
+    while let Some((own, later)) = rest.split_bundle() {
+        append_pairs(all, own)?;
         rest = later;
     }
     Ok(())

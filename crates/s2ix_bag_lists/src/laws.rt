@@ -4,12 +4,14 @@ ghost use Rattle.s2ix_bag_lists.specs.Laws.{ChangesHaveNoFault, InverseTakesBack
 ghost use Rattle.s2ix_bag_lists.specs.declared.errors.ApplyError.{ApplyError};
 ghost use Rattle.s2ix_bag_lists.specs.declared.errors.ChangeError.{ChangeError};
 ghost use Rattle.s2ix_bag_lists.specs.declared.errors.RevertError.{RevertError};
+ghost use Rattle.s2ix_bag_lists.specs.declared.lists_view.ListsView.{ListsView};
 ghost use Rattle.s2ix_bag_pairs.specs.Collection.{Collection};
 
 use crate::errors::{ApplyError, ChangeError, RevertError};
 use crate::held_iter::HeldIter;
 use crate::held_parts::HeldParts;
 use crate::lists::FaceLists;
+use crate::lists_view::ListsView;
 
 /// A list of entries is a change exactly if it has no fault.
 pub fn changes_have_no_fault()
@@ -51,6 +53,12 @@ pub fn equal_lists_are_one()
 /// A clone of a list in parts holds the same pairs with the same counts.
 pub fn cloned_held_parts_are_the_same()
     ensures { (list copy : Collection) → ⟦<HeldParts as Clone>⟧.is_clone list copy ↔ (copy ≡ list) }
+{}
+
+/// A clone of a view shows the same lists, and cloning never fails.
+pub fn cloned_views_are_the_same<'a>()
+    ensures same { (lists copy : ListsView) → ⟦<ListsView<'a> as Clone>⟧.is_clone lists copy ↔ (copy ≡ lists) }
+    ensures never_fails { (lists : ListsView) → ⟦<ListsView<'a> as Clone>⟧.is_infallible lists }
 {}
 
 /// A clone of the lists holds the same pairs with the same counts.

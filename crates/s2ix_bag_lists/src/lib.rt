@@ -5,13 +5,15 @@
 //!
 //! As a whole: a [`FaceLists`] holds the pairs of a collection, and contracts see them as one rising list. It keeps the pairs of each face
 //! in a [`HeldParts`], which cuts them into parts, lists of `s2ix_bag_held`, and keeps these in bundles of at most 64 ([`SharedLists`]). All
-//! of it is shared: a copy raises six counters. A change copies only the parts on which it has entries, and parts beside them that have
-//! become small. It counts one more user of each part in the bundles that it touches, and of each other bundle. Each part has a filter of
-//! its labels, so that a search for a label's pairs passes over most parts that have none. Costs are for n held pairs and m entries.
+//! of it is shared: a copy raises six counters. A change copies only the parts on which it has entries, and a part on either side of one if
+//! the two are joined, as short ones are. It counts one more owner of each part in the bundles that it touches, and of each other bundle. Each
+//! part has a filter of its labels, so that a search for a label's pairs passes over most parts that have none. Costs are for n held pairs and
+//! m entries.
 #![tactic(auto)]
 
 mod apply;
 mod bundle;
+mod bundle_search;
 mod compare;
 mod cut;
 mod entries;
@@ -22,9 +24,9 @@ mod held_parts;
 pub mod laws;
 mod lists;
 mod lists_view;
+mod merged_parts;
 mod part_list;
 mod part_search;
-mod parts_after;
 mod parts_mismatch;
 mod same;
 mod search;

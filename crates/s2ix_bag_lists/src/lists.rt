@@ -121,7 +121,8 @@ impl FaceLists {
         (before_face + before, part)
     }
 
-    /// How many pairs come before the face that the pair at a place is of, counted from 0, and all pairs held on that face. O(1).
+    /// For a place in rising order, counted from 0: how many pairs come before the face of the pair there, and all pairs held on that face.
+    /// O(1).
     pub fn face_at(&self, place: usize) -> (usize, &HeldParts)
         requires { place < length self.now }
         ensures { IsFaceAt place self.now result.0 result.1.now }
@@ -200,9 +201,9 @@ impl FaceLists {
         self.len + gains(entries) - losses(entries)
     }
 
-    /// What a change that has the right counts before makes of the pairs. The parts without an entry are shared, the others
-    /// copied: O(p + k + m) for m entries, the p parts of their faces and the k pairs of the entries' parts. `OutOfMemory` if a growth is
-    /// refused.
+    /// What a change that has the right counts before makes of the pairs. The parts with entries are copied, and so is a part on either side of
+    /// one if the two are joined, as short ones are; the other parts are shared: O(p + k + m log p) for m entries, the p parts of their faces
+    /// and the k pairs of the copied parts. `OutOfMemory` if a growth is refused, or if a list, a bundle or a part is shared too often.
     pub fn after(&self, alloc: Global, entries: &[Entry]) -> Result<FaceLists, OutOfMemory>
         requires entries_rise { IsChangeList entries.now }
         requires before { AreBefore self.now entries.now }

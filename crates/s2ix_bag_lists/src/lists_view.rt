@@ -1,18 +1,23 @@
 use crate::shared_lists::SharedLists;
 use s2ix_bag_held::HeldList;
+use s2ix_bag_pairs::Pair;
 
 /// Some lists of a [`SharedLists`] that follow one another, as a slice is some elements of a vector.
 #[derive(Clone, Copy, Debug)]
 pub struct ListsView<'a> {
-    // the lists from the number `first` on and before `end` of these, of which there are none if there is no `SharedLists`
+    // the view shows those of these lists that come from the number `first` on and before `end`; without them it shows no list
     whole: Option<&'a SharedLists>,
     first: usize,
     end: usize,
 }
 
 impl<'a> ListsView<'a> {
-    ghost use Rattle.std.specs.Prelude.{◌≡◌, ◌++◌, ◌<◌, ◌≤◌, [], ◌∷◌, None, length, take, drop, slice_index_or, IfSome};
+    ghost use Rattle.std.specs.Prelude.{◌≡◌, ◌+◌, ◌++◌, ◌<◌, ◌≤◌, [], ◌∷◌, None, length, take, drop, slice_index_or, IfSome};
+    ghost use Rattle.s2ix_bag_lists.specs.Faces.{all_of};
+    ghost use Rattle.s2ix_bag_lists.specs.Parts.{AreAround, AreFilled};
     ghost use Rattle.s2ix_bag_lists.specs.View.{lists_in};
+    ghost use Rattle.s2ix_bag_pairs.specs.Collection.{IsCollection};
+    ghost use Rattle.s2ix_bag_pairs.specs.Pair.{rank_of};
 
     /// No list. O(1).
     pub fn none() -> ListsView<'a>
@@ -93,6 +98,21 @@ impl<'a> ListsView<'a> {
             end: self.end,
         };
         Some((whole.at(self.first), later))
+    }
+
+    // Of these lists, which rise: those in the bundle that a pair is in, or would go into, and how many of these lists come before them.
+    // O(log b) for b bundles.
+    pub(crate) fn bundle_of(self, pair: Pair) -> (usize, &'a [HeldList])
+        requires rises { IsCollection (all_of (lists_in self)) }
+        requires filled { AreFilled (lists_in self) }
+        requires some { 0 < length (lists_in self) }
+        ensures around { AreAround (lists_in self.entry) (rank_of pair) result.0 result.1.now }
+        ensures within_limit { result.0 + length result.1.now ≤ 1000000 }
+    {
+        match self.whole {
+            Some(whole) => whole.bundle_of(self.first, self.end.min(whole.len()), pair),
+            None => unreachable!(),
+        }
     }
 
     // The lists of the first bundle, as far as they are among these, and those that follow them; `None` if there is no list. O(log b) for b

@@ -7,8 +7,8 @@ ghost use Rattle.s2ix_bag_pairs.specs.Change.{IsChangeList, changed};
 ghost use Rattle.s2ix_bag_pairs.specs.Collection.{IsCollection, count_in};
 
 use crate::lists_view::ListsView;
+use crate::merged_parts::merged_parts;
 use crate::part_search::{last_start, part_of};
-use crate::parts_after::parts_after;
 use crate::search::count_of;
 use crate::shared_lists::SharedLists;
 use crate::window::window;
@@ -39,7 +39,8 @@ impl Model for PartList {
     ghost invariant = { λ s. AreParts s.parts s.starts.items s.len };
 }
 
-// Appends how many pairs come before each of some parts, of which the first has so many before it. Returns how many come before what follows.
+// Appends for each of these parts how many pairs come before it, if `before` come before the first. Returns how many come before what follows
+// the last. O(p) for p parts.
 fn push_starts(
     starts: &mut Vec<usize>,
     parts: &[HeldList],
@@ -59,8 +60,8 @@ fn push_starts(
     Ok(start)
 }
 
-// Appends how many pairs come before each part from the number `end` on, if `now` come before the first of them, of which `was` came before it
-// by the `starts` as they are. O(p) for p parts, of which it reads none.
+// Appends for each part from the number `end` on how many pairs come before it, once those before the number `end` have changed: `was` pairs
+// came before that number, as the `starts` say, and `now` pairs do. O(p) for p parts, of which it reads none.
 fn push_later_starts(
     all: &mut Vec<usize>,
     parts: ListsView<'_>,
@@ -97,27 +98,28 @@ fn pairs_before(parts: ListsView<'_>, starts: &[usize], len: usize, part: usize)
     }
 }
 
-// How many pairs come before each part, and how many the parts have in all, once others take the place of those from the number `window.0` on
-// and before `window.1`; `starts` and `len` say so of the parts as they are. O(p) for p parts, of which it reads only the new ones.
+// How many pairs come before each part, and how many the parts have in all, once others take the place of those from the number `replaced.0`
+// on and before `replaced.1`; `starts` and `len` say so of the parts as they are. O(p) for p parts, of which it reads only the new ones.
+// `OutOfMemory` if a growth is refused.
 fn starts_with(
     alloc: Global,
     parts: ListsView<'_>,
     starts: &[usize],
     len: usize,
-    window: (usize, usize),
+    replaced: (usize, usize),
     made: &[HeldList],
 ) -> Result<(Vec<usize>, usize), OutOfMemory>
     requires counted { starts.now ≡ starts_from 0 (lists_in parts) }
     requires whole { len ≡ length (all_of (lists_in parts)) }
-    requires some { window.0 < window.1 }
-    requires within { window.1 ≤ length (lists_in parts) }
-    requires within_limit { length (all_of (take window.0 (lists_in parts) ++ (made.now ++ drop window.1 (lists_in parts)))) ≤ 1000000 }
+    requires some { replaced.0 < replaced.1 }
+    requires within { replaced.1 ≤ length (lists_in parts) }
+    requires within_limit { length (all_of (take replaced.0 (lists_in parts) ++ (made.now ++ drop replaced.1 (lists_in parts)))) ≤ 1000000 }
     ensures starts { IfOk result (λ counted. counted.0.items
-        ≡ starts_from 0 (take window.0 (lists_in parts.entry) ++ (made.now ++ drop window.1 (lists_in parts.entry)))) }
+        ≡ starts_from 0 (take replaced.0 (lists_in parts.entry) ++ (made.now ++ drop replaced.1 (lists_in parts.entry)))) }
     ensures len { IfOk result (λ counted. counted.1
-        ≡ length (all_of (take window.0 (lists_in parts.entry) ++ (made.now ++ drop window.1 (lists_in parts.entry))))) }
+        ≡ length (all_of (take replaced.0 (lists_in parts.entry) ++ (made.now ++ drop replaced.1 (lists_in parts.entry))))) }
 {
-    let (first, end) = window;
+    let (first, end) = replaced;
     let (front, _) = starts.split_at(first);
     let mut all = Vec::with_capacity(alloc, starts.len().saturating_add(made.len()))?;
     all.extend_from_slice(front)?;
@@ -142,6 +144,7 @@ impl PartList {
         Ok(PartList { parts, starts, len })
     }
 
+    // How many pairs are held. O(1).
     pub(crate) fn len(&self) -> usize
         ensures number { result ≡ length self.now }
         ensures rises { IsCollection self.now }
@@ -150,6 +153,7 @@ impl PartList {
         self.len
     }
 
+    // The parts, in rising order of their pairs; none is empty. O(1).
     pub(crate) fn parts(&self) -> ListsView<'_>
         ensures list { all_of (lists_in result) ≡ self.now }
         ensures filled { AreFilled (lists_in result) }
@@ -168,7 +172,7 @@ impl PartList {
         (self.starts[part], self.parts.at(part))
     }
 
-    // O(log p * log b + log k) for p parts in b bundles, of which the pair's has k pairs.
+    // O(log n) for n pairs.
     pub(crate) fn count(&self, pair: Pair) -> u32
         ensures { result ≡ count_in self.now pair }
     {
@@ -179,7 +183,7 @@ impl PartList {
 
     // What a change that has the right counts before makes of the pairs; `None` if no pair is left. Parts that are not near its entries are
     // shared by bundles: O(b + w + m + k) for b bundles, w parts from the first entry's to the last entry's, m entries and the k pairs of their
-    // parts, and O(p) to write p numbers. `OutOfMemory` if a growth is refused.
+    // parts, and O(p) to write p numbers. `OutOfMemory` if a growth is refused, or if a part or a bundle is shared too often.
     pub(crate) fn after(
         &self,
         alloc: Global,
@@ -197,7 +201,7 @@ impl PartList {
         let (first, end) = window(parts, entries);
         let (up_to, _) = parts.split_at(end);
         let (_, own) = up_to.split_at(first);
-        let made = parts_after(alloc, own, entries, max_part_len)?;
+        let made = merged_parts(alloc, own, entries, max_part_len)?;
         let (starts, len) = starts_with(alloc, parts, &self.starts, self.len, (first, end), &made)?;
         let parts = self.parts.spliced(alloc, first, end, made)?;
         if parts.len() == 0 {

@@ -10,7 +10,7 @@ ghost use Rattle.s2ix_bag_pairs.specs.Pair.{rank_of};
 use crate::lists_view::ListsView;
 use s2ix_bag_pairs::{Entry, Pair};
 
-// The part that a pair is in, or would go into. O(log p * log b) for p parts in b bundles.
+// The part that a pair is in, or would go into. O(log p) for p parts: the search goes over the bundles first, then over the parts of one.
 pub(crate) fn part_of(parts: ListsView<'_>, pair: Pair) -> usize
     requires rises { IsCollection (all_of (lists_in parts)) }
     requires filled { AreFilled (lists_in parts) }
@@ -20,11 +20,12 @@ pub(crate) fn part_of(parts: ListsView<'_>, pair: Pair) -> usize
     ensures below { AreBelow (rank_of pair) (all_of (take result (lists_in parts.entry))) }
     ensures rest { IsCollectionFrom (rank_of pair + 1) (all_of (drop (result + 1) (lists_in parts.entry))) }
 {
-    let mut low = 0;
-    let mut high = parts.len();
+    let (before, own) = parts.bundle_of(pair);
+    let mut low = before;
+    let mut high = before + own.len();
     while high - low > 1 {
         let middle = low + (high - low) / 2;
-        let part = parts.at(middle);
+        let part = &own[middle - before];
         if pair.is_before(part.at(0).pair) {
             high = middle;
         } else {

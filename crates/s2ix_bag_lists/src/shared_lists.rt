@@ -1,19 +1,24 @@
 //! Lists of held pairs in bundles, so that two lists of lists share all bundles but those in which they differ.
-ghost use Rattle.std.specs.Prelude.{◌≡◌, ◌+◌, ◌++◌, ◌<◌, ◌≤◌, [], length, take, drop, slice_index_or, IfOk, OnOk};
-ghost use Rattle.s2ix_bag_lists.specs.Bundles.{IsBundleAt, bundle_starts, lists_of};
+ghost use Rattle.std.specs.Prelude.{◌≡◌, ◌+◌, ◌++◌, ◌<◌, ◌≤◌, [], length, take, drop, slice_index_or, reverse, All, IfOk, OnOk};
+ghost use Rattle.s2ix_bag_lists.specs.Bundles.{HasList, bundle_starts, lists_between, lists_of};
+ghost use Rattle.s2ix_bag_lists.specs.Faces.{all_of};
+ghost use Rattle.s2ix_bag_lists.specs.Parts.{AreAround, AreFilled};
+ghost use Rattle.s2ix_bag_pairs.specs.Collection.{IsCollection};
+ghost use Rattle.s2ix_bag_pairs.specs.Pair.{rank_of};
 
 use crate::bundle::Bundle;
-use crate::part_search::last_start;
+use crate::bundle_search::{bundle_at, bundle_of};
 use s2id_core::OutOfMemory;
 use s2ix_bag_held::HeldList;
+use s2ix_bag_pairs::Pair;
 use std::alloc::Global;
 use std::marker::Model;
 
 // The most lists of a bundle.
 const MAX_BUNDLE_LEN: usize = 64;
 
-/// Lists of held pairs, at most 1,000,000, in bundles of at most 64. Contracts see the lists. What takes the place of some of them copies the
-/// bundles in which they lie, and shares the other bundles.
+/// Lists of held pairs, at most 1,000,000, in bundles of at most 64. Contracts see the lists. If others take the place of some of them, the
+/// bundles of these are copied, and the other bundles are shared.
 #[derive(Debug, Drop)]
 pub struct SharedLists {
     bundles: Vec<Bundle>,
@@ -54,7 +59,7 @@ fn share_bundles(out: &mut Vec<Bundle>, bundles: &[Bundle]) -> Result<(), OutOfM
     Ok(())
 }
 
-// Lists between others, which are shared.
+// Lists with others before and behind them, each of which is shared once more. O(k) for k lists in all.
 fn between(
     alloc: Global,
     before: &[HeldList],
@@ -72,7 +77,8 @@ fn between(
     Ok(all)
 }
 
-// How many of the lists that are left the next bundle takes: three quarters of the most, which leaves it room to grow.
+// How many of the lists that are left the next bundle takes: all if they fit into one, else half of them, but at most three quarters of the
+// most, which leaves room to grow.
 fn bundle_len(len: usize) -> usize
     requires { 0 < len }
     ensures some { 0 < result }
@@ -85,17 +91,33 @@ fn bundle_len(len: usize) -> usize
     }
 }
 
-// Appends lists in bundles, each list shared once more.
-fn push_cut(alloc: Global, bundles: &mut Vec<Bundle>, lists: &[HeldList]) -> Result<(), OutOfMemory>
-    ensures { OnOk result (lists_of bundles.new.items ≡ lists_of bundles.old.items ++ lists.now) }
+// Lists in bundles, from the last bundle to the first. O(k) for k lists.
+fn cut_from_end(alloc: Global, lists: Vec<HeldList>) -> Result<Vec<Bundle>, OutOfMemory>
+    ensures lists { IfOk result (λ cut. lists_of (reverse cut.items) ≡ lists.items) }
+    ensures filled { IfOk result (λ cut. All HasList cut.items) }
 {
     let mut rest = lists;
+    let mut cut = Vec::new(alloc);
     while !rest.is_empty() {
-        let (own, later) = rest.split_at(bundle_len(rest.len()));
-        let mut shared = Vec::with_capacity(alloc, own.len())?;
-        share_lists(&mut shared, own)?;
-        bundles.push(Bundle::new(alloc, shared)?)?;
-        rest = later;
+        let own = rest.split_off(rest.len() - bundle_len(rest.len()))?;
+        cut.push(Bundle::new(alloc, own)?)?;
+    }
+    Ok(cut)
+}
+
+// Appends lists in bundles. O(k) for k lists.
+fn push_cut(
+    alloc: Global,
+    bundles: &mut Vec<Bundle>,
+    lists: Vec<HeldList>,
+) -> Result<(), OutOfMemory>
+    requires filled { All HasList bundles.old.items }
+    ensures lists { OnOk result (lists_of bundles.new.items ≡ lists_of bundles.old.items ++ lists.items) }
+    ensures filled { OnOk result (All HasList bundles.new.items) }
+{
+    let mut cut = cut_from_end(alloc, lists)?;
+    while let Some(bundle) = cut.pop() {
+        bundles.push(bundle)?;
     }
     Ok(())
 }
@@ -106,10 +128,12 @@ fn push_bundles(
     bundles: &mut Vec<Bundle>,
     lists: Vec<HeldList>,
 ) -> Result<(), OutOfMemory>
-    ensures { OnOk result (lists_of bundles.new.items ≡ lists_of bundles.old.items ++ lists.items) }
+    requires filled { All HasList bundles.old.items }
+    ensures lists { OnOk result (lists_of bundles.new.items ≡ lists_of bundles.old.items ++ lists.items) }
+    ensures filled { OnOk result (All HasList bundles.new.items) }
 {
     if lists.is_empty() || lists.len() > MAX_BUNDLE_LEN {
-        return push_cut(alloc, bundles, &lists);
+        return push_cut(alloc, bundles, lists);
     }
     bundles.push(Bundle::new(alloc, lists)?)?;
     Ok(())
@@ -132,17 +156,6 @@ fn bundle_starts_of(alloc: Global, bundles: &[Bundle]) -> Result<(Vec<usize>, us
     Ok((starts, before))
 }
 
-// The bundle that has the list at a place, and how many lists come before it. O(log b) for b bundles.
-fn bundle_at(bundles: &[Bundle], starts: &[usize], place: usize) -> (usize, usize)
-    requires counted { starts.now ≡ bundle_starts 0 bundles.now }
-    requires within { place < length (lists_of bundles.now) }
-    ensures { IsBundleAt bundles.now place result.0 result.1 }
-{
-    let bundle = last_start(starts, place);
-    let before = starts[bundle];
-    (bundle, before)
-}
-
 impl SharedLists {
     /// These lists. O(k) for k lists. `OutOfMemory` if a growth is refused.
     pub fn new(alloc: Global, lists: Vec<HeldList>) -> Result<SharedLists, OutOfMemory>
@@ -156,7 +169,8 @@ impl SharedLists {
 
     // The lists of these bundles. O(b) for b bundles. `OutOfMemory` if a growth is refused.
     fn of_bundles(alloc: Global, bundles: Vec<Bundle>) -> Result<SharedLists, OutOfMemory>
-        requires { length (lists_of bundles.items) ≤ 1000000 }
+        requires filled { All HasList bundles.items }
+        requires within_limit { length (lists_of bundles.items) ≤ 1000000 }
         ensures { IfOk result (λ all. all ≡ lists_of bundles.items) }
     {
         let (starts, len) = bundle_starts_of(alloc, &bundles)?;
@@ -185,7 +199,7 @@ impl SharedLists {
         &lists[place - before]
     }
 
-    // The lists of one bundle from a place on, as far as they come before another place.
+    // The lists from the number `first` on that are in one bundle with it and come before the number `end`. O(log b) for b bundles.
     pub(crate) fn bundle_from(&self, first: usize, end: usize) -> &[HeldList]
         requires some { first < end }
         requires within { end ≤ length self.now }
@@ -199,8 +213,27 @@ impl SharedLists {
         own
     }
 
+    // Of the lists from the number `first` on and before `end`, which rise: those in the bundle that a pair is in, or would go into, and how
+    // many of the lists from `first` on come before them. O(log b) for b bundles.
+    pub(crate) fn bundle_of(&self, first: usize, end: usize, pair: Pair) -> (usize, &[HeldList])
+        requires some { first < end }
+        requires within { end ≤ length self.now }
+        requires rises { IsCollection (all_of (lists_between first end self.now)) }
+        requires filled { AreFilled (lists_between first end self.now) }
+        ensures { AreAround (lists_between first end self.now) (rank_of pair) result.0 result.1.now }
+    {
+        let span = bundle_of(&self.bundles, &self.starts, first, end, pair);
+        let start = self.starts[span.bundle];
+        let (up_to, _) = self.bundles[span.bundle]
+            .as_slice()
+            .split_at(span.end - start);
+        let (_, own) = up_to.split_at(span.first - start);
+        (span.first - first, own)
+    }
+
     /// The lists once others take the place of those from the number `first` on and before `end`. The bundles of these are copied, the other
-    /// bundles are shared: O(b + k) for b bundles and the k lists that are new or in copied bundles. `OutOfMemory` if a growth is refused.
+    /// bundles are shared: O(b + k) for b bundles and the k lists that are new or in copied bundles. `OutOfMemory` if a growth is refused, or
+    /// if a list or a bundle is shared too often.
     pub fn spliced(
         &self,
         alloc: Global,

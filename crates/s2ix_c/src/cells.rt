@@ -249,7 +249,7 @@ pub extern "C" fn s2ix_cell_edge_neighbors(cell: u64, out: &mut [u64; 4]) -> u32
 
 // The border of a level round a cell, or the status of why there is none.
 fn border_of(alloc: Global, cell: u64, level: u8) -> Result<Vec<CellId>, u32>
-    ensures there { IfOk result (λ _. HasBorder cell level) }
+    ensures accepted { IfOk result (λ _. HasBorder cell level) }
     ensures cells { IfOk result (λ cells. IsBorder (path_at cell) level cells.items) }
     ensures refused { IfErr result (λ why. IsBorderRefusal cell level why) }
 {

@@ -95,7 +95,8 @@ pub extern "C" fn s2ix_undone_count(alloc: Global, handle: &mut Handle, number: 
     })
 }
 
-/// On how many faces, 0 to 6, the last accepted edit, undo or redo changed pairs.
+/// On how many faces, 0 to 6, the last accepted edit, list of rows, undo, redo, `s2ix_record` or `s2ix_apply` changed pairs. The number is 0
+/// before the first of these, and a refused call leaves it as it was.
 #[unsafe(no_mangle)]
 pub extern "C" fn s2ix_faces_rebuilt(alloc: Global, handle: &mut Handle, number: &mut usize) -> u32
     ensures { Tells (λ s. s.faces_rebuilt) result number.new (held_of handle.old) (held_of handle.new) }

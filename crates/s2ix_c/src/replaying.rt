@@ -56,7 +56,7 @@ fn open_led(
     ensures limits { (result ≡ no_limits) ↔ (AreLimits pairs copies changes → ⊥) }
     ensures refused { result ≢ done → result ≢ no_limits
         → RefusesIn direction dump.now journal.now pairs copies changes (refused_at result place.new entry.new) }
-    ensures nowhere { (result ≡ done) ⊎ (result ≡ no_limits) → (place.new ≡ 0) × (entry.new ≡ 0) }
+    ensures no_place { (result ≡ done) ⊎ (result ≡ no_limits) → (place.new ≡ 0) × (entry.new ≡ 0) }
 {
     *place = 0;
     *entry = 0;
@@ -89,7 +89,7 @@ pub extern "C" fn s2ix_replay(
     ensures limits { (result ≡ no_limits) ↔ (AreLimits pairs copies changes → ⊥) }
     ensures refused { result ≢ done → result ≢ no_limits
         → RefusesIn Forward dump.now journal.now pairs copies changes (refused_at result place.new entry.new) }
-    ensures nowhere { (result ≡ done) ⊎ (result ≡ no_limits) → (place.new ≡ 0) × (entry.new ≡ 0) }
+    ensures no_place { (result ≡ done) ⊎ (result ≡ no_limits) → (place.new ≡ 0) × (entry.new ≡ 0) }
 {
     open_led(
         alloc,
@@ -124,7 +124,7 @@ pub extern "C" fn s2ix_rewind(
     ensures limits { (result ≡ no_limits) ↔ (AreLimits pairs copies changes → ⊥) }
     ensures refused { result ≢ done → result ≢ no_limits
         → RefusesIn Back dump.now journal.now pairs copies changes (refused_at result place.new entry.new) }
-    ensures nowhere { (result ≡ done) ⊎ (result ≡ no_limits) → (place.new ≡ 0) × (entry.new ≡ 0) }
+    ensures no_place { (result ≡ done) ⊎ (result ≡ no_limits) → (place.new ≡ 0) × (entry.new ≡ 0) }
 {
     open_led(
         alloc,

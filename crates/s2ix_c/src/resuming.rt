@@ -36,7 +36,7 @@ pub extern "C" fn s2ix_resume(
     ensures limits { (result ≡ no_limits) ↔ (AreLimits pairs copies changes → ⊥) }
     ensures refused { result ≢ done → result ≢ no_limits
         → RefusesResumed dump.now journal.now pairs copies changes (refused_at result place.new entry.new) }
-    ensures nowhere { (result ≡ done) ⊎ (result ≡ no_limits) → (place.new ≡ 0) × (entry.new ≡ 0) }
+    ensures no_place { (result ≡ done) ⊎ (result ≡ no_limits) → (place.new ≡ 0) × (entry.new ≡ 0) }
 {
     *place = 0;
     *entry = 0;

@@ -63,4 +63,4 @@ module _ (ids : List ℕ) (cells : List CellId) (count end : ℕ) (cell : CellId
   not_following before f =
       let long : count < length f.cells = omega (arith, ap length f.are, length-map f.cells raw_of) in
       let there = ap first_of (is_there ids f.cells count cell cell f.are is long) in
-      omega (arith, there, h.reaches f.cells f.are f.follow cell long)
+      omega (arith, there, h.reaches f.cells f.are f.following cell long)

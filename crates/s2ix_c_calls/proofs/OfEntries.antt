@@ -35,7 +35,7 @@ module _ (rows : List EntryRow) (place : ℕ) (d : EntryRow) (within : place < l
   first_no_entry why before wrong = record {
     before = before;
     row = get_or rows place d;
-    there = slice_get-get_or rows place d within;
+    row_is = slice_get-get_or rows place d within;
     wrong = wrong;
   }
 

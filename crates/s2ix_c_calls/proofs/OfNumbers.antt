@@ -27,7 +27,7 @@ module _ (ids : List ℕ) (place id : ℕ) (within : place < length ids) (is : i
     cells = before.0;
     before = before.1;
     id = id;
-    there = slice_get-get_or ids place 0 within ∙ ap Some (sym is);
+    id_is = slice_get-get_or ids place 0 within ∙ ap Some (sym is);
     wrong = wrong;
   }
 
@@ -54,27 +54,27 @@ all_of_both first second a b =
 
 pub first_of_first : (first second : List ℕ) (place : ℕ) → IsFirstNoCell first place → IsFirstNoCell (first ++ second) place
 first_of_first first second place found =
-    let within = slice_get_within first place found.id found.there in
+    let within = slice_get_within first place found.id found.id_is in
     let longer : place < length (first ++ second) = omega (arith, length-append first second) in record {
       cells = found.cells;
       before = found.before ∙ sym (take-append-le place first second (omega arith));
       id = found.id;
-      there = slice_get-get_or (first ++ second) place found.id longer
-          ∙ ap Some (get_or_append_left first second found.id place within ∙ get_or_from_slice_get first place found.id found.id found.there);
+      id_is = slice_get-get_or (first ++ second) place found.id longer
+          ∙ ap Some (get_or_append_left first second found.id place within ∙ get_or_from_slice_get first place found.id found.id found.id_is);
       wrong = found.wrong;
     }
 
 pub first_of_second : (first second : List ℕ) (place : ℕ) → AreAllCells first → IsFirstNoCell second place
     → IsFirstNoCell (first ++ second) (length first + place)
 first_of_second first second place all found =
-    let within = slice_get_within second place found.id found.there in
+    let within = slice_get_within second place found.id found.id_is in
     let longer : length first + place < length (first ++ second) = omega (arith, length-append first second) in record {
       cells = all.0 ++ found.cells;
       before = map-append raw_of all.0 found.cells ∙ ap (λ l. l ++ map raw_of found.cells) all.1 ∙ ap (λ l. first ++ l) found.before
           ∙ sym (take-append-add first second place);
       id = found.id;
-      there = slice_get-get_or (first ++ second) (length first + place) found.id longer
-          ∙ ap Some (get_or-append-add first second place found.id ∙ get_or_from_slice_get second place found.id found.id found.there);
+      id_is = slice_get-get_or (first ++ second) (length first + place) found.id longer
+          ∙ ap Some (get_or-append-add first second place found.id ∙ get_or_from_slice_get second place found.id found.id found.id_is);
       wrong = found.wrong;
     }
 
@@ -82,8 +82,8 @@ first_of_second first second place all found =
 
 pub lacks_cell : (ids : List ℕ) (place : ℕ) → IsFirstNoCell ids place → LacksCell ids
 lacks_cell ids place found =
-    let within = slice_get_within ids place found.id found.there in (
+    let within = slice_get_within ids place found.id found.id_is in (
       found.id,
-      subst (λ (n : ℕ). Contains ids n) (get_or_from_slice_get ids place found.id found.id found.there) (Contains-get_or ids place found.id within),
+      subst (λ (n : ℕ). Contains ids n) (get_or_from_slice_get ids place found.id found.id found.id_is) (Contains-get_or ids place found.id within),
       found.wrong,
     )

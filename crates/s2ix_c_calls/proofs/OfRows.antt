@@ -20,7 +20,7 @@ module _ (rows : List Row) (place : ℕ) (row : Row) (within : place < length ro
   first_wrong why right wrong = record {
     before = right;
     row = row;
-    there = slice_get_read rows (length rows) place row refl within is;
+    row_is = slice_get_read rows (length rows) place row refl within is;
     wrong = wrong;
   }
 

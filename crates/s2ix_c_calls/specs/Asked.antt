@@ -27,7 +27,7 @@ IsOneLeaf ids = (leaf : CellId) × (level_of leaf ≡ 30) × AreCells ids (leaf 
 pub record AreFollowing (ids : List ℕ) : Type 0 where
   pub cells : List CellId
   pub are : AreCells ids cells
-  pub follow : FollowOneAnother cells
+  pub following : FollowOneAnother cells
   pub at_most : length ids ≤ 1024
 
 -- the numbers are not those of at most 1,024 cells that follow one another: so if each is a cell's, a union is made
@@ -47,7 +47,7 @@ pub record IsFirstNoCell (ids : List ℕ) (place : ℕ) : Type 0 where
   pub cells : List CellId
   pub before : AreCells (take place ids) cells
   pub id : ℕ
-  pub there : slice_get ids place ≡ Some id
+  pub id_is : slice_get ids place ≡ Some id
   pub wrong : IsCellNumber id → ⊥
 
 -- each of the numbers is a cell's
@@ -124,5 +124,5 @@ pub record AreRight (rows : List Row) : Type 0 where
 pub record IsFirstWrong (rows : List Row) (place why : ℕ) : Type 0 where
   pub before : AreRight (take place rows)
   pub row : Row
-  pub there : slice_get rows place ≡ Some row
+  pub row_is : slice_get rows place ≡ Some row
   pub wrong : held_asked row ≡ Err why

@@ -28,5 +28,5 @@ WantsUnion (Err fault) = ⊥
 
 -- it is told what a line would do; or memory is wanted for its union
 pub record TellsKind (line : List ℕ) (status kind : ℕ) : Type 0 where
-  pub told : status ≡ done → kind ≡ line_kind_of (meaning_of line)
+  pub answered : status ≡ done → kind ≡ line_kind_of (meaning_of line)
   pub refused : status ≢ done → (status ≡ out_of_memory) × (kind ≡ 0) × WantsUnion (meaning_of line)

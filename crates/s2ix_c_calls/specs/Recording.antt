@@ -35,7 +35,7 @@ AreAllEntries rows = (entries : List Entry) × GiveEntries rows entries
 pub record IsFirstNoEntry (rows : List EntryRow) (place why : ℕ) : Type 0 where
   pub before : AreAllEntries (take place rows)
   pub row : EntryRow
-  pub there : slice_get rows place ≡ Some row
+  pub row_is : slice_get rows place ≡ Some row
   pub wrong : entry_asked row ≡ Err why
 
 -- the rows give a change

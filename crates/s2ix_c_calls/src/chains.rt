@@ -17,7 +17,7 @@ use crate::rows::{Row, row_for};
 use crate::status::{DONE, NO_ROOM};
 use s2id_core::CellId;
 use s2ix_bag_held::FlatHeld;
-use s2ix_table_queries::{LeafHint, RangeTable};
+use s2ix_table_queries::{Bookmark, RangeTable};
 
 // Where the chain of a range begins, or `None` if nothing lies over it.
 #[inline]
@@ -183,7 +183,7 @@ pub(crate) fn put_over<T: RangeTable>(
     requires { level_of leaf ≡ 30 }
     ensures { IsFilled (map row_of (contents_at (raw_of leaf) (T.pairs table.now))) result number.new out.old out.new }
 {
-    let over = table.contents_near(leaf, LeafHint::none());
+    let over = table.contents_near(leaf, Bookmark::none());
     let next = write_linked(over.held, over.outers, over.innermost, out, number);
     let more = length_linked(over.held, over.outers, next);
     let mut behind = 0;
@@ -262,7 +262,7 @@ pub(crate) fn put_over_from<T: RangeTable>(
     requires { level_of leaf ≡ 30 }
     ensures { IsPut (map row_of (take (length out.old) (drop from (contents_at (raw_of leaf) (T.pairs table.now))))) done result out.old out.new }
 {
-    let over = table.contents_near(leaf, LeafHint::none());
+    let over = table.contents_near(leaf, Bookmark::none());
     let mut passed = 0;
     let first = pass_linked(over.held, over.outers, over.innermost, from, &mut passed);
     let mut count = 0;

@@ -12,7 +12,7 @@ use s2id_core::CellId;
 pub(crate) fn write_following(ids: &[u64], room: &mut [CellId]) -> bool
     requires { length ids.now ≤ length room.old }
     ensures cells { IsTrue result → AreCells ids.now (take (length ids.now) room.new) }
-    ensures follow { IsTrue result → FollowOneAnother (take (length ids.now) room.new) }
+    ensures following { IsTrue result → FollowOneAnother (take (length ids.now) room.new) }
     ensures wrong { result ≡ false → AreFollowing ids.now → ⊥ }
 {
     let mut end = 0;

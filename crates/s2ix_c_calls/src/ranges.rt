@@ -14,7 +14,7 @@ use crate::rows::Row;
 use crate::status::{DONE, NO_CELL, NO_RANGE};
 use s2id_core::CellId;
 use s2ix_edit::{Store, StoreTable};
-use s2ix_table_queries::{RangeTable, leaf_of};
+use s2ix_table_queries::{Bookmark, RangeTable, leaf_of};
 use s2ix_table_walk::RangeRow;
 use s2ix_table_walk::laws::range_table_is_the_collections;
 
@@ -84,7 +84,7 @@ pub fn range(
         *is_empty = true;
         return NO_RANGE;
     }
-    let (row, first, _note) = table.read_near(place, 0);
+    let (row, first, _bookmark) = table.read_near(place, Bookmark::none());
     *start = row.start;
     *limit = row.limit;
     *is_empty = first.is_none();
@@ -98,15 +98,15 @@ fn write_ranges<T: RangeTable>(table: &T, from: usize, out: &mut [LeafRange]) ->
 {
     let rest = table.range_count().saturating_sub(from);
     let count = rest.min(out.len());
-    let mut near = 0;
+    let mut last = Bookmark::none();
     for place in 0..count {
-        let (row, first, note) = table.read_near(from + place, near);
+        let (row, first, next) = table.read_near(from + place, last);
         out[place] = LeafRange {
             start: row.start,
             limit: row.limit,
             is_empty: first.is_none(),
         };
-        near = note;
+        last = next;
     }
     count
 }

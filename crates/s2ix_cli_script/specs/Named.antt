@@ -114,15 +114,15 @@ revert_named fields = then_ok (λ number. revert_with (change_number_spelled num
 -- ---- the cells that fields name
 
 -- a cell before others; the first field that names none decides
-abbrev pub before : Result CellId LineFault → Result (List CellId) LineFault → Result (List CellId) LineFault
-before (Err fault) cells = Err fault
-before (Ok cell) (Err fault) = Err fault
-before (Ok cell) (Ok cells) = Ok (cell ∷ cells)
+abbrev pub cells_with : Result CellId LineFault → Result (List CellId) LineFault → Result (List CellId) LineFault
+cells_with (Err fault) cells = Err fault
+cells_with (Ok cell) (Err fault) = Err fault
+cells_with (Ok cell) (Ok cells) = Ok (cell ∷ cells)
 
 -- the cells that the fields TOKEN.. name
 abbrev pub cells_named : List (List ℕ) → Result (List CellId) LineFault
 cells_named [] = Ok []
-cells_named (token ∷ tokens) = before (cell_with (cell_spelled token)) (cells_named tokens)
+cells_named (token ∷ tokens) = cells_with (cell_with (cell_spelled token)) (cells_named tokens)
 
 -- their normal union
 abbrev pub union_of : List (List ℕ) → Result (List CellId) LineFault

@@ -1,7 +1,7 @@
 //! The cells that the fields of a line name, as their normal union. Only this module allocates, and only if each of these fields names a
 //! cell.
 ghost use Rattle.std.specs.Prelude.{◌≡◌, ◌<◌, ◌∷◌, [], Err, IfErr, IfNone, IfOk, IfSome, MatchResult, Ok, length, true};
-ghost use Rattle.s2ix_cli_script.specs.Named.{IsFault, Means, add_union_named, before, cells_named, is_add_union, union_named, union_of};
+ghost use Rattle.s2ix_cli_script.specs.Named.{IsFault, Means, add_union_named, cells_named, cells_with, is_add_union, union_named, union_of};
 
 use crate::fields::{cell_from_field, label_from_field};
 use crate::line_fault::{LineError, LineFault};
@@ -75,7 +75,7 @@ fn read_cells(alloc: Global, first: &[u8], mut rest: Fields<'_>) -> Result<Vec<C
 // The cell that the next field names, or `None` if no field is left.
 #[inline]
 fn next_cell(fields: &mut Fields<'_>) -> Result<Option<CellId>, LineFault>
-    ensures next { IfOk result (λ next. IfSome next (λ cell. cells_named fields.old ≡ before (Ok cell) (cells_named fields.new))) }
+    ensures next { IfOk result (λ next. IfSome next (λ cell. cells_named fields.old ≡ cells_with (Ok cell) (cells_named fields.new))) }
     ensures fewer { IfOk result (λ next. IfSome next (λ _. length fields.new < length fields.old)) }
     ensures end { IfOk result (λ next. IfNone next (fields.old ≡ [])) }
     ensures fault { IfErr result (λ fault. cells_named fields.old ≡ Err fault) }

@@ -15,11 +15,11 @@
 //! [`turns`] is the number of pieces after which an input is too long.
 #![tactic(auto)]
 
+mod arguments;
 mod command;
 mod ending;
 mod fields;
 mod flushing;
-mod given;
 mod help;
 mod input;
 mod instructions;

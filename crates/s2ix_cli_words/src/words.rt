@@ -3,8 +3,8 @@ ghost use Rattle.clap.specs.Words.{kind_of};
 ghost use Rattle.s2ix_cli_words.specs.Shown.{ArePlain, Says};
 ghost use Rattle.s2ix_cli_words.specs.Words.{AreRefused, AskFor, IsToldAs};
 
+use crate::arguments::command_met;
 use crate::command::Command;
-use crate::given::command_met;
 use crate::limits::LimitHelp;
 use crate::shown::words_text;
 use crate::tree::program;

@@ -8,11 +8,11 @@ use Rattle.s2ix_bag_pairs.specs.Change.{changed, inverse_of, IsChangeList}
 use Rattle.s2ix_bag_pairs.specs.Collection.{Collection, LimitedCollection, IsBag, IsCollection}
 use Rattle.s2ix_bag_pairs.specs.Limits.{changes_limit}
 use Rattle.s2ix_edit_plan.specs.State.{State, earlier, later, history_of}
-use Rattle.s2ix_edit_plan.specs.History.{History, alone, cursor_alone, one_back, one_on}
+use Rattle.s2ix_edit_plan.specs.History.{History, alone, cursor_alone, one_back, one_on, with_next}
 use Rattle.s2ix_edit_plan.proofs.Edited.{length-earlier}
 use Rattle.s2ix_edit.specs.Store.{IsStore, CanGoBack, CanGoOn}
 use Rattle.s2ix_bag_pairs.proofs.Inverse.{inverse-inverse, inverse_keeps}
-use Rattle.s2ix_edit.specs.Steps.{with_held, after_record, IsShifted}
+use Rattle.s2ix_edit.specs.Steps.{with_held, after_record, after_step, IsShifted}
 use Rattle.s2ix_edit.proofs.Taken.{changed_back, not_mismatched, takes_back}
 use Rattle.std.specs.List.{slice_get}
 use Rattle.std.proofs.lemmas.Option.{slice_get_read}
@@ -38,8 +38,7 @@ same_last xs front x y is found =
 
 -- ---- planned entries recorded
 
--- the history goes on to the changed collection
-pub collections_recorded : (hs new : Collection) (es : List Entry) (done : List (List Entry)) (rest : List Collection)
+collections_recorded : (hs new : Collection) (es : List Entry) (done : List (List Entry)) (rest : List Collection)
     → changed new (inverse_of es) ≡ hs
     → earlier new (reverse (done ++ es ∷ [])) ++ new ∷ [] ≡ take (length done + 1) (earlier hs (reverse done) ++ hs ∷ rest) ++ new ∷ []
 collections_recorded hs new es done rest back =
@@ -47,6 +46,14 @@ collections_recorded hs new es done rest back =
     ∙ ap (λ k. (earlier k (reverse done) ++ k ∷ []) ++ new ∷ []) back
     ∙ ap (λ xs. xs ++ new ∷ [])
     (sym (take_through (earlier hs (reverse done)) rest hs (length done) (length-earlier hs (reverse done) ∙ length-reverse done)))
+
+-- the history goes on to the collection to which a step leads
+pub history_step : (s : State) (new : Collection) (es : List Entry) → changed new (inverse_of es) ≡ s.bag.held
+    → history_of (after_step s new es) ≡ with_next (history_of s) new
+history_step s new es back =
+    ap₂ (λ (collections : List Collection) (cursor : ℕ). let h : History = record { collections = collections; cursor = cursor } in h)
+    (collections_recorded s.bag.held new es s.done (later s.bag.held (reverse s.undone)) back)
+    (length-append s.done (es ∷ []))
 
 -- a bag that a change made can go back over it, and on as before
 pub back_over : (bag : LimitedCollection) (done : List (List Entry)) (es : List Entry) → IsBag bag → CanGoBack bag (reverse done)

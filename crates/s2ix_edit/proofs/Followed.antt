@@ -1,19 +1,17 @@
 -- What each step of a store makes of its history.
-use Rattle.std.proofs.Common.{ℕ, ◌≡◌, ◌≢◌, ◌-◌, List, [], ◌∷◌, get_or, length, reverse, take, refl, sym, ap, ap₂, ◌∙◌}
-use Rattle.std.proofs.lemmas.List.{length-append}
+use Rattle.std.proofs.Common.{◌≡◌, ◌≢◌, ◌-◌, [], get_or, length, reverse, take, refl, sym, ap, ◌∙◌}
 use Rattle.std.proofs.Math.Seq.{take-append_seam}
-use Rattle.s2ix_bag_pairs.specs.Collection.{Collection}
 use Rattle.s2ix_bag_pairs.proofs.Inverse.{changed_inverse_between}
 use Rattle.s2ix_bag_lists.proofs.Refusals.{made_is_bag, taken_from_none}
 use Rattle.s2ix_edit_plan.specs.declared.edit.Edit.{Edit}
 use Rattle.s2ix_edit_plan.specs.Edit.{edited}
-use Rattle.s2ix_edit_plan.specs.State.{State, change_of, history_of, later}
-use Rattle.s2ix_edit_plan.specs.History.{History, changes_along, cursor_alone, one_back, one_on, with_next}
+use Rattle.s2ix_edit_plan.specs.State.{State, change_of, history_of}
+use Rattle.s2ix_edit_plan.specs.History.{changes_along, cursor_alone, one_back, one_on, with_next}
 use Rattle.s2ix_edit_plan.proofs.Edited.{held_edited_is_collection}
 use Rattle.s2ix_edit.specs.Store.{IsStore}
 use Rattle.s2ix_edit.specs.Steps.{after_edit, after_forget, after_redo, after_redo_of, after_undo, after_undo_of}
 use Rattle.s2ix_edit.proofs.Along.{changes_of_history}
-use Rattle.s2ix_edit.proofs.AtCursor.{collections_recorded, goes_on, history_alone, history_redone, history_undone}
+use Rattle.s2ix_edit.proofs.AtCursor.{goes_on, history_alone, history_redone, history_step, history_undone}
 use Rattle.s2ix_edit.proofs.Redone.{ends_in_last, redo_of_last}
 use Rattle.s2ix_edit.proofs.Undone.{undo_of_last}
 
@@ -21,12 +19,9 @@ use Rattle.s2ix_edit.proofs.Undone.{undo_of_last}
 pub history_edited : (s : State) (edit : Edit) → IsStore s
     → history_of (after_edit s edit) ≡ with_next (history_of s) (edited (history_of s) edit)
 history_edited s edit st =
-    let hs = s.bag.held in
     let new = edited (history_of s) edit in
-    ap₂ (λ (collections : List Collection) (cursor : ℕ). let h : History = record { collections = collections; cursor = cursor } in h)
-    (collections_recorded hs new (change_of s edit) s.done (later hs (reverse s.undone))
-    (changed_inverse_between hs new st.bag.rises (held_edited_is_collection s edit st.bag.rises)))
-    (length-append s.done (change_of s edit ∷ []))
+    history_step s new (change_of s edit)
+    (changed_inverse_between s.bag.held new st.bag.rises (held_edited_is_collection s edit st.bag.rises))
 
 -- an undo goes back by one
 pub history_after_undo : (s : State) → IsStore s → s.done ≢ [] → history_of (after_undo s) ≡ one_back (history_of s)

@@ -1,8 +1,7 @@
 -- A change that is given to a store alone, and rows that are removed from it.
-use Rattle.std.proofs.Common.{◌≡◌, ◌↔◌, ◌+◌, ◌-◌, ◌<◌, ◌==◌, ℕ, Bool, true, false, cond, List, [], ◌∷◌, ◌++◌, length, reverse, Option, Some, None, refl, sym, ap, ap₂, ◌∙◌, subst, arith, ne_eqb}
+use Rattle.std.proofs.Common.{◌≡◌, ◌↔◌, ◌+◌, ◌-◌, ◌<◌, ◌==◌, Bool, true, false, cond, List, [], ◌∷◌, ◌++◌, length, Option, Some, None, refl, sym, ap, ap₂, ◌∙◌, subst, arith, ne_eqb}
 use Rattle.std.specs.Option.{option_map}
 use Rattle.std.proofs.lemmas.Bool.{cond-false, leb-false, lt-leb}
-use Rattle.std.proofs.lemmas.List.{length-append}
 use Rattle.std.proofs.lemmas.List.Elements.{All-cons, All-head, All-nil}
 use Rattle.s2ix_bag_lists.specs.Apply.{apply_refusal, IsApplyRefusal}
 use Rattle.s2ix_bag_lists.specs.declared.errors.ApplyError.{ApplyError}
@@ -18,10 +17,10 @@ use Rattle.s2ix_bag.specs.Replay.{replay_refusal}
 use Rattle.s2ix_bag.proofs.Forth.{first_taken, refusal_after}
 use Rattle.s2ix_edit_plan.specs.declared.edit.Edit.TheVariants.{Remove}
 use Rattle.s2ix_edit_plan.specs.declared.errors.RemoveError.{RemoveError}
-use Rattle.s2ix_edit_plan.specs.History.{History, with_next}
+use Rattle.s2ix_edit_plan.specs.History.{with_next}
 use Rattle.s2ix_edit_plan.specs.Removals.{IsRemoveRefusal, TakesRows, removal_change, removal_plan_refusal, removal_refusal, without_rows}
 use Rattle.s2ix_edit_plan.specs.Rows.{copies_at}
-use Rattle.s2ix_edit_plan.specs.State.{State, history_of, later}
+use Rattle.s2ix_edit_plan.specs.State.{State, history_of}
 use Rattle.s2ix_edit_plan.proofs.Edited.{edited_held}
 use Rattle.s2ix_edit_plan.proofs.Plans.{between_changed}
 use Rattle.s2ix_edit_plan.proofs.Removals.{held_from_none, rows_taken, without_rows_keeps}
@@ -29,13 +28,13 @@ use Rattle.s2ix_edit.specs.declared.record_error.RecordError.{RecordError}
 use Rattle.s2ix_edit.specs.declared.record_error.RecordError.TheVariants as alone
 use Rattle.s2ix_edit.specs.Given.{after_apply, given_refusal, record_refusal}
 use Rattle.s2ix_edit.specs.OneChange.{IsRecordRefusal, change_refusal, record_error}
-use Rattle.s2ix_edit.specs.Steps.{after_edit, after_record, after_removal, after_undo, faces_of, with_held}
+use Rattle.s2ix_edit.specs.Steps.{after_edit, after_record, after_removal, after_step, after_undo, faces_of, with_held}
 use Rattle.s2ix_edit.specs.Store.{HasRoom, IsStore}
-use Rattle.s2ix_edit.proofs.AtCursor.{collections_recorded, stands_recorded}
+use Rattle.s2ix_edit.proofs.AtCursor.{history_step, stands_recorded}
 use Rattle.s2ix_edit.proofs.Histories.{HasEntries, few_are_recordable, neither_refused, recordable_are_few, recordable_have_entries, taken_whole}
 use Rattle.s2ix_edit.proofs.Planned.{stand}
-use Rattle.s2ix_edit.proofs.Rows.{undo_of_made}
 use Rattle.s2ix_edit.proofs.Taken.{changed_back, not_mismatched}
+use Rattle.s2ix_edit.proofs.Undone.{gone_back, undo_of_step}
 use Rattle.s2ix_bag_lists.proofs.Refusals.{made_is_bag, taken_from_none}
 
 -- ---- a change that is given
@@ -44,10 +43,7 @@ use Rattle.s2ix_bag_lists.proofs.Refusals.{made_is_bag, taken_from_none}
 pub history_made : (s : State) (es : List Entry) → IsBag s.bag → IsChangeList es → apply_refusal s.bag es ≡ None
     → history_of (after_record s es) ≡ with_next (history_of s) (changed s.bag.held es)
 history_made s es b rises taken =
-    ap₂ (λ (collections : List Collection) (cursor : ℕ). let h : History = record { collections = collections; cursor = cursor } in h)
-    (collections_recorded s.bag.held (changed s.bag.held es) es s.done (later s.bag.held (reverse s.undone))
-    (changed_back s.bag es b.rises rises (not_mismatched s.bag es taken)))
-    (length-append s.done (es ∷ []))
+    history_step s (changed s.bag.held es) es (changed_back s.bag es b.rises rises (not_mismatched s.bag es taken))
 
 pub history_recorded : (s : State) (es : List Entry) → IsStore s → IsChangeList es → apply_refusal s.bag es ≡ None
     → history_of (after_record s es) ≡ with_next (history_of s) (changed s.bag.held es)
@@ -137,9 +133,7 @@ removal_planned bag rows es b takes =
 pub removal_state : (s : State) (rows : List Held) (es : List Entry) → IsStore s → TakesRows s.bag rows es
     → after_record s es ≡ after_removal s rows
 removal_state s rows es st takes =
-    ap₂ (λ (hs : Collection) (ds : List Entry).
-    let after : State = record { bag = with_held s.bag hs; done = s.done ++ ds ∷ []; undone = []; faces_rebuilt = faces_of ds } in after)
-    takes.result (sym (removal_planned s.bag rows es st.bag takes))
+    ap₂ (after_step s) takes.result (sym (removal_planned s.bag rows es st.bag takes))
 
 pub history_removed : (s : State) (rows : List Held) (es : List Entry) → IsStore s → TakesRows s.bag rows es
     → history_of (after_record s es) ≡ with_next (history_of s) (without_rows rows s.bag.held)
@@ -169,25 +163,11 @@ unplanned_removal s rows error room refused =
 
 -- removed rows and then an undo lead back
 pub undo_of_removal : (s : State) (rows : List Held) → IsStore s
-    → after_undo (after_removal s rows)
-    ≡ record {
-      bag = s.bag;
-      done = s.done;
-      undone = removal_change s.bag.held rows ∷ [];
-      faces_rebuilt = faces_of (removal_change s.bag.held rows);
-    }
-undo_of_removal s rows st = undo_of_made s (without_rows rows s.bag.held) st (without_rows_keeps rows s.bag.held st.bag.rises)
+    → after_undo (after_removal s rows) ≡ gone_back s (removal_change s.bag.held rows)
+undo_of_removal s rows st = undo_of_step s (without_rows rows s.bag.held) st (without_rows_keeps rows s.bag.held st.bag.rises)
 
 -- one row is removed as `Remove` does
 pub one_row_removed : (s : State) (row : Held) → IsStore s → after_removal s (row ∷ []) ≡ after_edit s (Remove row.pair row.count)
 one_row_removed s row st =
-    ap (λ (new : Collection).
-    let t : State =
-    record {
-      bag = with_held s.bag new;
-      done = s.done ++ change_between s.bag.held new ∷ [];
-      undone = [];
-      faces_rebuilt = faces_of (change_between s.bag.held new);
-    } in
-    t)
+    ap (λ (new : Collection). after_step s new (change_between s.bag.held new))
     (sym (edited_held s (Remove row.pair row.count) (stand s st)))

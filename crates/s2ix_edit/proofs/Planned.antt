@@ -1,7 +1,7 @@
 -- What a store makes of planned entries.
-use Rattle.std.proofs.Common.{◌≡◌, ◌<◌, List, [], ◌∷◌, ◌++◌, length, sym, ap, ap₂, ◌∙◌, subst}
+use Rattle.std.proofs.Common.{◌≡◌, ◌<◌, List, length, sym, ap, ap₂, ◌∙◌, subst}
 use Rattle.s2ix_bag_pairs.specs.declared.pair.Entry.{Entry}
-use Rattle.s2ix_bag_pairs.specs.Collection.{Collection, LimitedCollection}
+use Rattle.s2ix_bag_pairs.specs.Collection.{LimitedCollection}
 use Rattle.s2ix_bag_pairs.specs.Limits.{changes_limit}
 use Rattle.s2ix_edit_plan.specs.declared.edit.Edit.{Edit}
 use Rattle.s2ix_edit_plan.specs.Plan.{Plans, entries_refusal}
@@ -10,7 +10,7 @@ use Rattle.s2ix_edit_plan.specs.State.{State, history_of}
 use Rattle.s2ix_edit_plan.specs.History.{standing}
 use Rattle.s2ix_edit_plan.proofs.Edited.{edited_held}
 use Rattle.s2ix_edit_plan.proofs.Refused.{change_planned, planned_refusal, with_room}
-use Rattle.s2ix_edit.specs.Steps.{after_edit, after_record, faces_of, with_held}
+use Rattle.s2ix_edit.specs.Steps.{after_edit, after_record, after_step}
 use Rattle.s2ix_edit.specs.Store.{IsStore}
 use Rattle.s2ix_edit.proofs.Followed.{done_to_cursor}
 
@@ -33,9 +33,7 @@ refused_of bag changes done edit is = ap (λ ess. plan_refusal bag ess edit) is
 pub planned_state : (s : State) (edit : Edit) (es : List Entry) → IsStore s → Plans s.bag s.done edit es
     → after_record s es ≡ after_edit s edit
 planned_state s edit es st plans =
-    ap₂ (λ (hs : Collection) (ds : List Entry).
-    let after : State = record { bag = with_held s.bag hs; done = s.done ++ ds ∷ []; undone = []; faces_rebuilt = faces_of ds } in after)
-    (plans.result ∙ sym (edited_held s edit (stand s st))) (sym (change_planned s edit es (stand s st) st.bag plans))
+    ap₂ (after_step s) (plans.result ∙ sym (edited_held s edit (stand s st))) (sym (change_planned s edit es (stand s st) st.bag plans))
 
 -- the refusal of an edit, read off its planned entries
 pub refusal_of_entries : (s : State) (edit : Edit) (es : List Entry) → IsStore s → length s.done < changes_limit s.bag.limits

@@ -1,12 +1,11 @@
 -- Rows added to the counts of a store.
-use Rattle.std.proofs.Common.{◌≡◌, ◌↔◌, ℕ, ◌+◌, List, [], ◌∷◌, ◌++◌, reverse, Bool, true, false, cond, find, Option, Some, None, Result, Err, OnOk, IfErr, refl, sym, ap, ap₂, ◌∙◌}
+use Rattle.std.proofs.Common.{◌≡◌, ◌↔◌, ℕ, ◌+◌, List, [], ◌∷◌, Bool, true, false, cond, find, Option, Some, None, Result, Err, OnOk, IfErr, refl, sym, ap, ap₂, ◌∙◌}
 use Rattle.std.proofs.lemmas.Bool.{cond-false, leb-false, lt-leb}
-use Rattle.std.proofs.lemmas.List.{length-append}
 use Rattle.s2ix_bag_pairs.specs.declared.pair.Entry.{Entry}
 use Rattle.s2ix_bag_pairs.specs.declared.pair.Held.{Held}
 use Rattle.s2ix_bag_pairs.specs.declared.pair.Pair.{Pair}
 use Rattle.s2ix_bag_pairs.specs.Change.{change_between}
-use Rattle.s2ix_bag_pairs.specs.Collection.{Collection, IsCollection, copies_in, count_in}
+use Rattle.s2ix_bag_pairs.specs.Collection.{Collection, copies_in, count_in}
 use Rattle.s2ix_bag_pairs.specs.Pair.{rank_of}
 use Rattle.s2ix_bag_pairs.proofs.Inverse.{changed_inverse_between}
 use Rattle.s2ix_edit_plan.specs.declared.errors.EditError.{EditError}
@@ -14,19 +13,19 @@ use Rattle.s2ix_edit_plan.specs.declared.errors.EditError.TheVariants.{JournalFu
 use Rattle.s2ix_edit_plan.specs.declared.edit.Edit.TheVariants.{Add}
 use Rattle.s2ix_edit_plan.specs.Edit.{edited}
 use Rattle.s2ix_edit_plan.specs.Errors.{IsEditRefusal}
-use Rattle.s2ix_edit_plan.specs.History.{History, with_next}
+use Rattle.s2ix_edit_plan.specs.History.{with_next}
 use Rattle.s2ix_edit_plan.specs.Plan.{entries_refusal}
 use Rattle.s2ix_edit_plan.specs.Refusals.{edit_refusal, is_due, refusals_with_room}
 use Rattle.s2ix_edit_plan.specs.Rows.{PlansRows, copies_at, rows_change, rows_plan_refusal, rows_refusal, with_rows}
-use Rattle.s2ix_edit_plan.specs.State.{State, history_of, later}
+use Rattle.s2ix_edit_plan.specs.State.{State, history_of}
 use Rattle.s2ix_edit_plan.proofs.Edited.{edited_held}
 use Rattle.s2ix_edit_plan.proofs.Rows.{nothing_from_refusal, refused_for_nothing, rows_counted, rows_planned, rows_refused, with_rows_keeps}
-use Rattle.s2ix_edit.specs.Steps.{after_edit, after_record, after_rows, after_undo, faces_of, with_held}
+use Rattle.s2ix_edit.specs.Steps.{after_edit, after_record, after_rows, after_step, after_undo}
 use Rattle.s2ix_edit.specs.Store.{HasRoom, IsStore}
 use Rattle.s2ix_edit.proofs.Answered.{nothing_answered, only_where}
-use Rattle.s2ix_edit.proofs.AtCursor.{collections_recorded}
+use Rattle.s2ix_edit.proofs.AtCursor.{history_step}
 use Rattle.s2ix_edit.proofs.Planned.{stand}
-use Rattle.s2ix_edit.proofs.Undone.{front_of, undo_of_last}
+use Rattle.s2ix_edit.proofs.Undone.{gone_back, undo_of_step}
 
 -- ---- what is recorded
 
@@ -34,9 +33,7 @@ use Rattle.s2ix_edit.proofs.Undone.{front_of, undo_of_last}
 pub rows_state : (s : State) (rows : List Held) (es : List Entry) → IsStore s → PlansRows s.bag rows es
     → after_record s es ≡ after_rows s rows
 rows_state s rows es st plans =
-    ap₂ (λ (hs : Collection) (ds : List Entry).
-    let after : State = record { bag = with_held s.bag hs; done = s.done ++ ds ∷ []; undone = []; faces_rebuilt = faces_of ds } in after)
-    plans.result (sym (rows_planned s.bag rows es st.bag plans))
+    ap₂ (after_step s) plans.result (sym (rows_planned s.bag rows es st.bag plans))
 
 -- the history goes on to the collection with the rows
 pub history_rows : (s : State) (rows : List Held) → IsStore s
@@ -44,10 +41,7 @@ pub history_rows : (s : State) (rows : List Held) → IsStore s
 history_rows s rows st =
     let hs = s.bag.held in
     let new = with_rows rows hs in
-    ap₂ (λ (collections : List Collection) (cursor : ℕ). let h : History = record { collections = collections; cursor = cursor } in h)
-    (collections_recorded hs new (rows_change hs rows) s.done (later hs (reverse s.undone))
-    (changed_inverse_between hs new st.bag.rises (with_rows_keeps rows hs st.bag.rises)))
-    (length-append s.done (rows_change hs rows ∷ []))
+    history_step s new (rows_change hs rows) (changed_inverse_between hs new st.bag.rises (with_rows_keeps rows hs st.bag.rises))
 
 -- each count grows by the copies that the rows have for its pair
 pub counts_grown : (s after : State) (rows : List Held) → IsStore s → after ≡ after_rows s rows → (pair : Pair)
@@ -89,39 +83,9 @@ nothing_answered_where s rows r st accepted refused memory =
 
 -- ---- an undo
 
--- a step to a collection and then an undo lead back
-pub undo_of_made : (s : State) (new : Collection) → IsStore s → IsCollection new
-    → after_undo (record {
-      bag = with_held s.bag new;
-      done = s.done ++ change_between s.bag.held new ∷ [];
-      undone = [];
-      faces_rebuilt = faces_of (change_between s.bag.held new);
-    })
-    ≡ record {
-      bag = s.bag;
-      done = s.done;
-      undone = change_between s.bag.held new ∷ [];
-      faces_rebuilt = faces_of (change_between s.bag.held new);
-    }
-undo_of_made s new st is =
-    let es = change_between s.bag.held new in
-    let made : State = record { bag = with_held s.bag new; done = s.done ++ es ∷ []; undone = []; faces_rebuilt = faces_of es } in
-    undo_of_last made s.done es refl
-    ∙ ap₂ (λ (hs : Collection) (done : List (List Entry)).
-    let t : State = record { bag = with_held s.bag hs; done = done; undone = es ∷ []; faces_rebuilt = faces_of es } in
-    t)
-    (changed_inverse_between s.bag.held new st.bag.rises is)
-    (front_of s.done es)
-
 pub undo_of_rows : (s : State) (rows : List Held) → IsStore s
-    → after_undo (after_rows s rows)
-    ≡ record {
-      bag = s.bag;
-      done = s.done;
-      undone = rows_change s.bag.held rows ∷ [];
-      faces_rebuilt = faces_of (rows_change s.bag.held rows);
-    }
-undo_of_rows s rows st = undo_of_made s (with_rows rows s.bag.held) st (with_rows_keeps rows s.bag.held st.bag.rises)
+    → after_undo (after_rows s rows) ≡ gone_back s (rows_change s.bag.held rows)
+undo_of_rows s rows st = undo_of_step s (with_rows rows s.bag.held) st (with_rows_keeps rows s.bag.held st.bag.rises)
 
 -- ---- one row
 
@@ -132,15 +96,7 @@ one_row_held s row st = sym (edited_held s (Add row.pair row.count) (stand s st)
 
 pub one_row_stored : (s : State) (row : Held) → IsStore s → after_rows s (row ∷ []) ≡ after_edit s (Add row.pair row.count)
 one_row_stored s row st =
-    ap (λ (new : Collection).
-    let t : State =
-    record {
-      bag = with_held s.bag new;
-      done = s.done ++ change_between s.bag.held new ∷ [];
-      undone = [];
-      faces_rebuilt = faces_of (change_between s.bag.held new);
-    } in
-    t)
+    ap (λ (new : Collection). after_step s new (change_between s.bag.held new))
     (one_row_held s row st)
 
 pub one_row_refused : (s : State) (row : Held) → IsStore s → rows_refusal s (row ∷ []) ≡ edit_refusal s (Add row.pair row.count)

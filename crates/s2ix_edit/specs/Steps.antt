@@ -4,7 +4,7 @@ use Rattle.s2ix_bag_pairs.specs.declared.pair.Entry.{Entry}
 use Rattle.s2ix_bag_pairs.specs.declared.pair.Held.{Held}
 use Rattle.s2ix_bag_pairs.specs.Change.{change_between, changed, inverse_of}
 use Rattle.s2ix_bag_pairs.specs.Collection.{Collection, LimitedCollection}
-pub use Rattle.s2ix_table.specs.Faces.{faces_of}
+pub use Rattle.s2ix_table_faced.specs.Faces.{faces_of}
 use Rattle.s2ix_edit_plan.specs.declared.edit.Edit.{Edit}
 use Rattle.s2ix_edit_plan.specs.Edit.{edited}
 use Rattle.s2ix_edit_plan.specs.Removals.{removal_change, without_rows}
@@ -16,41 +16,25 @@ use Rattle.s2ix_edit.specs.Shortened.{steps_before}
 abbrev pub with_held : LimitedCollection → Collection → LimitedCollection
 with_held bag hs = record { limits = bag.limits; held = hs }
 
+-- the store after a step to a collection: these entries are the last change that was done, and nothing can be redone
+abbrev pub after_step : State → Collection → List Entry → State
+after_step s hs es = record { bag = with_held s.bag hs; done = s.done ++ es ∷ []; undone = []; faces_rebuilt = faces_of es }
+
 -- the store after an accepted edit
 abbrev pub after_edit : State → Edit → State
-after_edit s edit = record {
-  bag = with_held s.bag (edited (history_of s) edit);
-  done = s.done ++ change_of s edit ∷ [];
-  undone = [];
-  faces_rebuilt = faces_of (change_of s edit);
-}
+after_edit s edit = after_step s (edited (history_of s) edit) (change_of s edit)
 
 -- the store after rows are added: they are one change
 abbrev pub after_rows : State → List Held → State
-after_rows s rows = record {
-  bag = with_held s.bag (with_rows rows s.bag.held);
-  done = s.done ++ rows_change s.bag.held rows ∷ [];
-  undone = [];
-  faces_rebuilt = faces_of (rows_change s.bag.held rows);
-}
+after_rows s rows = after_step s (with_rows rows s.bag.held) (rows_change s.bag.held rows)
 
 -- the store after rows are removed: they are one change
 abbrev pub after_removal : State → List Held → State
-after_removal s rows = record {
-  bag = with_held s.bag (without_rows rows s.bag.held);
-  done = s.done ++ removal_change s.bag.held rows ∷ [];
-  undone = [];
-  faces_rebuilt = faces_of (removal_change s.bag.held rows);
-}
+after_removal s rows = after_step s (without_rows rows s.bag.held) (removal_change s.bag.held rows)
 
--- the store after planned entries: its bag has the counts after, and they are the last change that was done
+-- the store after planned entries: its bag has the counts after
 abbrev pub after_record : State → List Entry → State
-after_record s es = record {
-  bag = with_held s.bag (changed s.bag.held es);
-  done = s.done ++ es ∷ [];
-  undone = [];
-  faces_rebuilt = faces_of es;
-}
+after_record s es = after_step s (changed s.bag.held es) es
 
 -- the change that an undo takes back: the last that was done
 abbrev pub last_done : State → Option (List Entry)

@@ -1,4 +1,4 @@
-//! Changes that are given to a store: when they are refused, and how they are recorded. And how a joined change takes the place of others.
+//! Changes that are given to a store: when they are refused, how they are recorded, and how a joined change takes the place of others.
 
 ghost use Rattle.std.specs.Prelude.{◌≡◌, All, None, Some, ◌++◌, ◌<◌, ◌≤◌, ◌+◌, IfErr, OnOk, length, take, vec_capacity, vec_len};
 ghost use Rattle.s2ix_bag_pairs.specs.Change.{IsChangeList};
@@ -28,7 +28,7 @@ fn first_empty_of(changes: &[Change]) -> Option<usize>
 
 // Tests that changes can be recorded if there is room for so many.
 pub(crate) fn test_recordable(changes: &[Change], room: usize) -> Result<(), HistoryError>
-    ensures taken { OnOk result (record_refusal room changes.now ≡ None) }
+    ensures accepted { OnOk result (record_refusal room changes.now ≡ None) }
     ensures rise { OnOk result (All IsChangeList changes.now) }
     ensures refused { IfErr result (λ error. record_refusal room changes.now ≡ Some error) }
 {

@@ -265,8 +265,8 @@ pub fn counts_are_first_and_standing()
         → pos (count_in s.bag.held pair) ≡ pos (count_in (first_collection s) pair) +ℤ gain_along s.done pair }
 {}
 
-/// Edits, undos, redos, joins and given changes keep the first collection. It is the one that the bag holds when a store starts, and after its changes are
-/// forgotten; if only older ones are, it is the one before those that are kept.
+/// Edits, undos, redos, joins and given changes keep the first collection. It is the one that the bag holds when a store starts, and after
+/// its changes are forgotten; if only older ones are, it is the one before those that are kept.
 pub fn steps_keep_the_first_collection()
     ensures start { (bag : LimitedCollection) → first_collection (starting_at bag) ≡ bag.held }
     ensures edit { (s : State) (edit : Edit)

@@ -2,14 +2,14 @@
 
 ghost use Rattle.std.specs.Prelude.{◌≡◌, ◌≤◌, ◌+◌, ◌*◌, IfOk, OnErr, OnOk};
 ghost use Rattle.s2ix_bag_pairs.specs.Change.{changed};
-ghost use Rattle.s2ix_table.specs.Faces.{changed_count, faces_of};
-ghost use Rattle.s2ix_table.specs.Reading.{two_searches};
+ghost use Rattle.s2ix_table_faced.specs.Faces.{changed_count, faces_of};
+ghost use Rattle.s2ix_table_faced.specs.Reading.{two_searches};
 ghost use Rattle.s2ix_table_walk.specs.Table.{IsRangeTable};
 
 use crate::store_table::StoreTable;
 use s2id_core::OutOfMemory;
 use s2ix_bag_changes::{Bag, Change};
-use s2ix_table::PairReader;
+use s2ix_table_faced::PairReader;
 use s2ix_table_queries::RangeTable;
 use std::alloc::Global;
 use std::marker::Model;
@@ -67,7 +67,7 @@ impl SharedTable {
         requires unread { B.spent bag.old ≡ 0 }
         requires made { changed self.old change.now ≡ B.shown bag.old }
         ensures pairs { OnOk result (self.new ≡ B.shown bag.old) }
-        ensures stays { OnErr result (self.new ≡ self.old) }
+        ensures unchanged { OnErr result (self.new ≡ self.old) }
         ensures reads_all { OnOk result (changed_count change.now (B.shown bag.old) ≤ B.spent bag.new) }
         ensures reads_few { B.spent bag.new ≤ changed_count change.now (B.shown bag.old) + faces_of change.now * two_searches (B.shown bag.old) }
     {

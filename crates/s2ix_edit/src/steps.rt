@@ -7,8 +7,8 @@ ghost use Rattle.s2ix_bag_pairs.specs.Change.{changed};
 ghost use Rattle.s2ix_bag_pairs.specs.Collection.{IsBag};
 ghost use Rattle.s2ix_edit_plan.specs.Errors.{IsEditRefusal};
 ghost use Rattle.s2ix_edit_plan.specs.Plan.{entries_refusal};
-ghost use Rattle.s2ix_table.specs.Faces.{changed_count, faces_of};
-ghost use Rattle.s2ix_table.specs.Reading.{two_searches};
+ghost use Rattle.s2ix_table_faced.specs.Faces.{changed_count, faces_of};
+ghost use Rattle.s2ix_table_faced.specs.Reading.{two_searches};
 ghost use Rattle.s2ix_edit.specs.Steps.{IsShifted, with_held};
 
 use crate::shared_table::SharedTable;
@@ -16,7 +16,7 @@ use s2id_core::OutOfMemory;
 use s2ix_bag_changes::{Bag, Change};
 use s2ix_bag_lists::ApplyError;
 use s2ix_edit_plan::EditError;
-use s2ix_table::{BagReader, PairReader};
+use s2ix_table_faced::{BagReader, PairReader};
 use std::alloc::Global;
 
 // Makes a table that of a bag to which a change has led from the table's bag, and returns how many pairs were read for it. With p pairs on the
@@ -29,7 +29,7 @@ pub(crate) fn rebuild_for(
 ) -> Result<u64, OutOfMemory>
     requires { changed table.old change.now ≡ bag.now.held }
     ensures table { OnOk result (table.new ≡ bag.now.held) }
-    ensures stays { OnErr result (table.new ≡ table.old) }
+    ensures unchanged { OnErr result (table.new ≡ table.old) }
     ensures reads_all { IfOk result (λ reads. changed_count change.now bag.now.held ≤ reads) }
     ensures reads_few { IfOk result (λ reads.
         reads ≤ changed_count change.now bag.now.held + faces_of change.now * two_searches bag.now.held) }
@@ -79,7 +79,7 @@ pub(crate) fn apply_recorded(alloc: Global, bag: &Bag, change: &Change) -> Resul
 
 // Makes room for so many changes more. The list stays.
 pub(crate) fn make_room(changes: &mut Vec<Change>, more: usize) -> Result<(), OutOfMemory>
-    ensures stay { changes.new.items ≡ changes.old.items }
+    ensures unchanged { changes.new.items ≡ changes.old.items }
     ensures room { OnOk result (vec_len changes.new + more ≤ vec_capacity changes.new) }
 {
     changes.reserve(more)?;

@@ -46,7 +46,7 @@ use s2ix_bag_pairs::{Held, Label, Limits};
 use s2ix_edit_plan::{
     Edit, EditError, RedoError, RemoveError, UndoError, plan, plan_removals, plan_rows, region_of,
 };
-use s2ix_table::changed_face_count;
+use s2ix_table_faced::changed_face_count;
 use s2ix_table_queries::RangeTable;
 use std::alloc::Global;
 use std::marker::Model;
@@ -400,7 +400,7 @@ impl Store {
         ensures number { IfOk result (λ n. n ≡ length (joined_last self.old last)) }
         ensures too_few { (result ≡ Err JoinError.TooFewChanges) ↔ (length self.old.done < last) }
         ensures nothing { last ≤ 1 → result ≢ Err JoinError.OutOfMemory }
-        ensures stays { last ≤ 1 → self.new ≡ self.old }
+        ensures same { last ≤ 1 → self.new ≡ self.old }
         ensures unchanged { OnErr result (self.new ≡ self.old) }
     {
         let number = self.done.len();
@@ -526,7 +526,7 @@ impl Store {
     pub fn done(&self) -> &[Change]
         ensures done { result.now ≡ self.now.done }
         ensures led { CanGoBack self.now.bag (reverse result.now) }
-        ensures stands { IsStore self.now }
+        ensures store { IsStore self.now }
         ensures within { All (IsRecorded self.now.bag.limits) result.now }
         ensures within_limit { length result.now ≤ changes_limit self.now.bag.limits }
     {

@@ -1,4 +1,4 @@
-use s2ix_table::FacedTable;
+use s2ix_table_faced::FacedTable;
 
 /// The range table that a [`Store`](crate::Store) keeps of its collection.
 pub type StoreTable = FacedTable;

@@ -16,7 +16,7 @@ use Rattle.s2ix_bag_pairs.proofs.Changes.{changed_at, changed_passes}
 use Rattle.s2ix_bag_pairs.proofs.Counts.{count_head, count_tail, from_lower}
 use Rattle.s2ix_bag_pairs.proofs.OfLabel.{same_label_at}
 use Rattle.s2ix_bag_lists.proofs.Refusals.{no_mismatch}
-use Rattle.s2ix_edit_plan.specs.Edit.{is_of, without}
+use Rattle.s2ix_edit_plan.specs.Edit.{is_of, without_label}
 use Rattle.s2ix_edit_plan.proofs.Plans.{Makes}
 
 -- ---- a part of a collection
@@ -75,18 +75,18 @@ pub is_of_no : (label : Label) (h : Held) → value_of h.pair.label ≢ value_of
 is_of_no label h ne = ne_eqb _ _ ne
 
 -- the collection without a label's pairs has none of them
-pub without_own : (label : Label) (hs : Collection) (p : Pair) → value_of p.label ≡ value_of label → count_in (without label hs) p ≡ 0
+pub without_own : (label : Label) (hs : Collection) (p : Pair) → value_of p.label ≡ value_of label → count_in (without_label label hs) p ≡ 0
 without_own label hs p e =
     filter_drops (λ h. not (is_of label h)) hs (rank_of p) (λ h at. ap not (is_of_yes label h (same_label_at h.pair p at ∙ e)))
 
 -- and every other count
 pub without_other : (label : Label) (hs : Collection) (p : Pair) → IsCollection hs → value_of p.label ≢ value_of label
-    → count_in (without label hs) p ≡ count_in hs p
+    → count_in (without_label label hs) p ≡ count_in hs p
 without_other label hs p is ne =
     filter_counts (λ h. not (is_of label h)) 0 hs (rank_of p) is
     (λ h at. ap not (is_of_no label h (λ e. ne (sym (same_label_at h.pair p at) ∙ e))))
 
-pub without_keeps : (label : Label) (hs : Collection) → IsCollection hs → IsCollection (without label hs)
+pub without_keeps : (label : Label) (hs : Collection) → IsCollection hs → IsCollection (without_label label hs)
 without_keeps label hs is = filter_keeps (λ h. not (is_of label h)) 0 hs is
 
 -- ---- the entries that take the pairs away
@@ -130,7 +130,7 @@ removals_change test n (h ∷ hs) is =
 
 -- the entries that take a label's pairs away make the collection without them
 pub removals_make : (bag : LimitedCollection) (label : Label) → IsCollection bag.held
-    → Makes bag (without label bag.held) (map removal_of (held_of label bag.held))
+    → Makes bag (without_label label bag.held) (map removal_of (held_of label bag.held))
 removals_make bag label is = record {
   rises = part_rises (is_of label) 0 bag.held is;
   matches = no_mismatch bag.held (map removal_of (held_of label bag.held)) (removals_before (is_of label) 0 bag.held is);

@@ -10,7 +10,7 @@ use Rattle.s2ix_bag_pairs.specs.TakenBack.{change_back}
 use Rattle.s2ix_bag_pairs.proofs.Collections.{set_keeps}
 use Rattle.s2ix_edit_plan.specs.declared.edit.Edit.{Edit}
 use Rattle.s2ix_edit_plan.specs.declared.edit.Edit.TheVariants.{Add, AddUnion, Remove, DropLabel, Relabel, Grow, Normalise, Revert}
-use Rattle.s2ix_edit_plan.specs.Edit.{edited, edited_by, numbered, without, without_change}
+use Rattle.s2ix_edit_plan.specs.Edit.{edited, edited_by, numbered, without_label, without_change}
 use Rattle.s2ix_edit_plan.specs.Grow.{grown_cells}
 use Rattle.s2ix_edit_plan.specs.Region.{region_of}
 use Rattle.s2ix_edit_plan.specs.State.{State, earlier, history_of, later}
@@ -59,7 +59,7 @@ edited_is_collection changes (DropLabel label) hs is = without_keeps label hs is
 edited_is_collection changes (Relabel source target) hs is = with_all_moved_keeps target (held_of source hs) hs is
 edited_is_collection changes (Grow label level) hs is = with_each_keeps label (grown_cells label level hs) hs is
 edited_is_collection changes (Normalise label) hs is =
-    with_each_keeps label (region_of label hs) (without label hs) (without_keeps label hs is)
+    with_each_keeps label (region_of label hs) (without_label label hs) (without_keeps label hs is)
 edited_is_collection changes (Revert number) hs is = without_change_keeps (numbered number changes) hs is
 
 pub held_edited_is_collection : (s : State) (edit : Edit) → IsCollection s.bag.held → IsCollection (edited (history_of s) edit)

@@ -16,7 +16,7 @@ use Rattle.s2ix_bag_pairs.specs.OfLabel.{held_of}
 use Rattle.s2ix_bag_pairs.specs.Pair.{rank_of}
 use Rattle.s2ix_bag_pairs.proofs.Collections.{count_set_other, count_set_same, set_keeps}
 use Rattle.s2ix_bag_pairs.proofs.Counts.{count_below, count_head, count_tail}
-use Rattle.s2ix_edit_plan.specs.Edit.{is_of, pair_of, with_all_moved, with_each, with_more, with_moved, without}
+use Rattle.s2ix_edit_plan.specs.Edit.{is_of, pair_of, with_all_moved, with_each, with_more, with_moved, without_label}
 use Rattle.s2ix_edit_plan.specs.Grow.{grown_cells}
 use Rattle.s2ix_edit_plan.specs.Refusals.{has_count_above, holds_none}
 use Rattle.s2ix_edit_plan.specs.Region.{cell_of, cells_of, region_of}
@@ -81,7 +81,7 @@ above_part c test (h ∷ hs) none =
     (cases_Bool (test h))
 
 -- the pairs of a label and those without it
-two_parts : (label : Label) (hs : Collection) → length (held_of label hs) + length (without label hs) ≡ length hs
+two_parts : (label : Label) (hs : Collection) → length (held_of label hs) + length (without_label label hs) ≡ length hs
 two_parts label hs = length-filter_both (is_of label) (λ h. not (is_of label h)) (λ h. refl) hs
 
 -- ---- a removal
@@ -132,15 +132,15 @@ removal_few bag p copies b = no_more_set 0 p (count_in bag.held p - copies) bag.
 -- ---- a label that is dropped
 
 pub drop_small : (bag : LimitedCollection) (label : Label) → IsBag bag
-    → has_count_above (count_limit bag.limits) (without label bag.held) ≡ false
+    → has_count_above (count_limit bag.limits) (without_label label bag.held) ≡ false
 drop_small bag label b =
     above_part (count_limit bag.limits) (λ h. not (is_of label h)) bag.held (none_above (count_limit bag.limits) bag.held b.small)
 
-pub drop_few : (bag : LimitedCollection) (label : Label) → length (without label bag.held) ≤ length bag.held
+pub drop_few : (bag : LimitedCollection) (label : Label) → length (without_label label bag.held) ≤ length bag.held
 drop_few bag label = omega (arith, two_parts label bag.held)
 
 -- if that leaves the collection as it is, no pair of the label is held
-pub drop_changes : (label : Label) (hs : Collection) → without label hs ≡ hs → holds_none label hs ≡ true
+pub drop_changes : (label : Label) (hs : Collection) → without_label label hs ≡ hs → holds_none label hs ≡ true
 drop_changes label hs same =
     let parts = two_parts label hs in
     let left = ap length same in
@@ -199,10 +199,10 @@ moved_few bag source target b =
 -- ---- one that is normalised
 
 pub normal_small : (bag : LimitedCollection) (label : Label) → IsBag bag
-    → has_count_above (count_limit bag.limits) (with_each label (region_of label bag.held) (without label bag.held)) ≡ false
+    → has_count_above (count_limit bag.limits) (with_each label (region_of label bag.held) (without_label label bag.held)) ≡ false
 normal_small bag label b =
     let cs = region_of label bag.held in
-    let rest = without label bag.held in
+    let rest = without_label label bag.held in
     let rest_is = without_keeps label bag.held b.rises in
     let one : 1 ≤ count_limit bag.limits = bag.limits.in_range.2 in
     small_from_counts (count_limit bag.limits) 0 (with_each label cs rest) (with_each_keeps label cs rest rest_is)
@@ -212,12 +212,12 @@ normal_small bag label b =
     (λ k. count_within (count_limit bag.limits) rest k (drop_small bag label b)))
 
 pub normal_few : (bag : LimitedCollection) (label : Label)
-    → length (with_each label (region_of label bag.held) (without label bag.held)) ≤ length bag.held
+    → length (with_each label (region_of label bag.held) (without_label label bag.held)) ≤ length bag.held
 normal_few bag label =
     let hs = bag.held in
     omega (
       arith,
-      length_each label (region_of label hs) (without label hs),
+      length_each label (region_of label hs) (without_label label hs),
       fewest_cells (cells_of label hs),
       length-map (held_of label hs) cell_of,
       two_parts label hs,

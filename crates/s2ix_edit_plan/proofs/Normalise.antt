@@ -17,7 +17,7 @@ use Rattle.s2ix_bag_pairs.proofs.Counts.{count_head, count_tail, from_lower}
 use Rattle.s2ix_bag_pairs.proofs.Differences.{between_is_change, counts_between, no_difference, only_change}
 use Rattle.s2ix_bag_pairs.proofs.OfLabel.{count_of_other, count_of_own, of_label_from, same_label_at}
 use Rattle.s2ix_bag_pairs.proofs.Pairs.{same_pair}
-use Rattle.s2ix_edit_plan.specs.Edit.{pair_of, with_each, with_more, without}
+use Rattle.s2ix_edit_plan.specs.Edit.{pair_of, with_each, with_more, without_label}
 use Rattle.s2ix_edit_plan.specs.Plan.{one_copy}
 use Rattle.s2ix_edit_plan.specs.Region.{cell_of, cells_of, region_of}
 use Rattle.s2ix_edit_plan.proofs.AddUnion.{RiseFrom, rise_contains, rises_from_zero, with_each_keeps, with_each_other, with_each_same}
@@ -74,24 +74,24 @@ each_from_none n label (c ∷ cs) ks k is rise none =
 
 -- the label's pairs replaced
 abbrev pub replaced : Label → List CellId → Collection → Collection
-replaced label cs hs = with_each label cs (without label hs)
+replaced label cs hs = with_each label cs (without_label label hs)
 
 pub replaced_keeps : (label : Label) (cs : List CellId) (hs : Collection) → IsCollection hs → IsCollection (replaced label cs hs)
-replaced_keeps label cs hs is = with_each_keeps label cs (without label hs) (without_keeps label hs is)
+replaced_keeps label cs hs is = with_each_keeps label cs (without_label label hs) (without_keeps label hs is)
 
 -- a pair of the label has the count that it is held with among them
 pub replaced_own : (label : Label) (cs : List CellId) (hs : Collection) (p : Pair) → IsCollection hs
     → AllPairs (λ a b. raw_of a < raw_of b) cs → value_of p.label ≡ value_of label
     → count_in (replaced label cs hs) p ≡ count_in (ones label cs) p
 replaced_own label cs hs p is pairs own =
-    each_from_none 0 label cs (without label hs) (rank_of p) (without_keeps label hs is) (rises_from_zero cs pairs)
+    each_from_none 0 label cs (without_label label hs) (rank_of p) (without_keeps label hs is) (rises_from_zero cs pairs)
     (without_own label hs p own)
 
 -- and every other its own
 pub replaced_other : (label : Label) (cs : List CellId) (hs : Collection) (p : Pair) → IsCollection hs → value_of p.label ≢ value_of label
     → count_in (replaced label cs hs) p ≡ count_in hs p
 replaced_other label cs hs p is other =
-    with_each_other label cs (without label hs) (rank_of p) (λ d has e. other (sym (same_label_at (pair_of d label) p e)))
+    with_each_other label cs (without_label label hs) (rank_of p) (λ d has e. other (sym (same_label_at (pair_of d label) p e)))
     ∙ without_other label hs p is other
 
 -- ---- the entries
@@ -151,7 +151,7 @@ replaced_cells label cs hs is pairs = ap (λ ks. map cell_of ks) (replaced_held 
 pub normalised_cell : (label : Label) (hs : Collection) (c : CellId) → IsCollection hs → Contains (region_of label hs) c
     → count_in (replaced label (region_of label hs) hs) (pair_of c label) ≡ 1
 normalised_cell label hs c is has =
-    with_each_same label (region_of label hs) (without label hs) c (without_keeps label hs is) (region_normal label hs).rises has
+    with_each_same label (region_of label hs) (without_label label hs) c (without_keeps label hs is) (region_normal label hs).rises has
     ∙ ap (λ m. m + 1) (without_own label hs (pair_of c label) refl)
 
 -- and another cell isn't held
@@ -159,7 +159,7 @@ pub normalised_elsewhere : (label : Label) (hs : Collection) (c : CellId) → (C
     → count_in (replaced label (region_of label hs) hs) (pair_of c label) ≡ 0
 normalised_elsewhere label hs c lacks =
     let In : CellId → Type 0 = λ d. Contains (region_of label hs) d in
-    with_each_other label (region_of label hs) (without label hs) (rank_of (pair_of c label))
+    with_each_other label (region_of label hs) (without_label label hs) (rank_of (pair_of c label))
     (λ d has e. lacks (subst In (ap (λ (p : Pair). p.cell) (same_pair (pair_of d label) (pair_of c label) e)) has))
     ∙ without_own label hs (pair_of c label) refl
 

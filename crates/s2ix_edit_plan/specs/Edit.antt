@@ -25,8 +25,8 @@ abbrev pub is_of : Label → Held → Bool
 is_of label h = value_of h.pair.label == value_of label
 
 -- the held pairs of other labels
-abbrev pub without : Label → Collection → Collection
-without label hs = filter (λ h. not (is_of label h)) hs
+abbrev pub without_label : Label → Collection → Collection
+without_label label hs = filter (λ h. not (is_of label h)) hs
 
 -- the collection with copies added to the count of one pair
 abbrev pub with_more : Pair → ℕ → Collection → Collection
@@ -66,10 +66,10 @@ abbrev pub edited_by : List (List Entry) → Edit → Collection → Collection
 edited_by changes (Add pair copies) hs = with_more pair copies hs
 edited_by changes (AddUnion cells label) hs = with_each label cells hs
 edited_by changes (Remove pair copies) hs = set_count pair (count_in hs pair - copies) hs
-edited_by changes (DropLabel label) hs = without label hs
+edited_by changes (DropLabel label) hs = without_label label hs
 edited_by changes (Relabel source target) hs = with_all_moved target (held_of source hs) hs
 edited_by changes (Grow label level) hs = with_each label (grown_cells label level hs) hs
-edited_by changes (Normalise label) hs = with_each label (region_of label hs) (without label hs)
+edited_by changes (Normalise label) hs = with_each label (region_of label hs) (without_label label hs)
 edited_by changes (Revert number) hs = without_change (numbered number changes) hs
 
 -- the collection after the edit of the one at the cursor, to which the standing changes led

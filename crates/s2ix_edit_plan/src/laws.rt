@@ -181,7 +181,7 @@ pub fn normalise_leaves_a_copy_each()
         → IsCollection hs
         → Contains (region_of label hs) cell
         → count_in (edited_alone (Normalise label) hs) (pair_of cell label) ≡ 1 }
-    ensures elsewhere { (hs : Collection) (label : Label) (cell : CellId)
+    ensures other_cells { (hs : Collection) (label : Label) (cell : CellId)
         → IsCollection hs
         → (Contains (region_of label hs) cell → ⊥)
         → count_in (edited_alone (Normalise label) hs) (pair_of cell label) ≡ 0 }

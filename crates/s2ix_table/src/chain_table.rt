@@ -7,12 +7,12 @@ ghost use Rattle.s2ix_table_spans.specs.Chains.{chain_of};
 ghost use Rattle.s2ix_table_spans.specs.Once.{KeepsOnce};
 ghost use Rattle.s2ix_table_spans.specs.OneProof.{chains_once-prop};
 
-use crate::shares_chains::SharesChains;
 use s2id_core::{CellId, LEAF_END, OutOfMemory};
 use s2ix_bag_changes::Bag;
 use s2ix_bag_held::HeldList;
 use s2ix_bag_pairs::Held;
-use s2ix_table_queries::{LeafContents, LeafHint, RangeTable};
+use s2ix_table_faced::SharesChains;
+use s2ix_table_queries::{Bookmark, LeafContents, RangeTable};
 use s2ix_table_spans::SpanTable;
 use s2ix_table_walk::RangeRow;
 use std::alloc::Global;
@@ -99,8 +99,8 @@ impl RangeTable for ChainTable {
     }
 
     #[inline(always)]
-    fn contents_near(&self, leaf: CellId, hint: LeafHint) -> LeafContents<'_, u32> {
-        let range = self.span.find_near(leaf, hint.range);
+    fn contents_near(&self, leaf: CellId, bookmark: Bookmark) -> LeafContents<'_, u32> {
+        let range = self.span.find_near(leaf, bookmark.range);
         let row = self.span.range(range);
         LeafContents {
             start: row.start,
@@ -109,7 +109,7 @@ impl RangeTable for ChainTable {
             outers: self.span.outers(),
             innermost: self.span.innermost(range),
             rest: None,
-            hint: LeafHint { range, ..hint },
+            bookmark: Bookmark { part: 0, range },
         }
     }
 }

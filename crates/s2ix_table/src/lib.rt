@@ -33,43 +33,28 @@
 //! no part longer. [`CopiedTable`] has a list for each range, and is slow to build: tests compare the others with it.
 //!
 //! The crates below this one: `s2ix_table_walk` defines the ranges of a bag and what meets a target, finds it, and counts what it reads;
-//! `s2ix_table_queries` has the trait with its queries, and `CopiedTable`; `s2ix_table_spans` builds the shared chains over a span of
-//! leaves; `s2ix_table_heavy` keeps the pairs of heavy cells; `s2ix_table_parts` makes the parts of a face, and what a change makes of them.
-//! Here are the readers of a bag, and the tables that share chains: how the parts of six faces become one table is here too.
+//! `s2ix_table_queries` has the trait with its queries; `s2ix_table_spans` builds the shared chains over a span of leaves;
+//! `s2ix_table_heavy` keeps the pairs of heavy cells; `s2ix_table_parts` makes the parts of a face, and what a change makes of them;
+//! `s2ix_table_faced` has `FacedTable`, and the readers of a bag. Here are the tables that take no changes, which no store waits for.
 #![tactic(auto)]
 
-mod all_faces;
-mod bag_reader;
-mod blocks;
 mod chain_table;
-mod changes;
-mod entries_on;
-mod faced_table;
-mod heavy_faces;
-mod heavy_within;
+mod copied;
+mod copied_filter;
+mod copied_pairs;
+mod copied_range;
 pub mod laws;
-mod layout;
-mod looking;
-mod offset;
-mod pair_reader;
-mod part_place;
-mod read_faces;
-mod shares_chains;
-mod starts;
 
-pub use bag_reader::BagReader;
 pub use chain_table::ChainTable;
-pub use changes::{changed_face_count, changed_faces};
-pub use faced_table::FacedTable;
-pub use pair_reader::PairReader;
-pub use part_place::{FaceHeavyPlace, FacedPlace, PartPlace};
-pub use read_faces::{read_changed, read_face, read_list};
+pub use copied::{CopiedPlace, CopiedTable};
+pub use s2ix_table_faced::{
+    BagReader, FaceHeavyPlace, FacedPlace, FacedTable, PairReader, PartPlace, SharesChains,
+    changed_face_count,
+};
 pub use s2ix_table_heavy::HeavyPlace;
 pub use s2ix_table_queries::{
-    BATCH, ChainIter, CopiedPlace, CopiedTable, Each, EachStop, LeafContents, LeafHint, Meter,
-    OfHeld, RangeIter, RangeTable, Stretch, Visit, at_each, cell_of, chain_at, contents, leaf_of,
-    ranges,
+    BATCH, Bookmark, ChainIter, Each, EachStop, LeafContents, Meter, OfHeld, RangeIter, RangeTable,
+    Stretch, Visit, at_each, cell_of, chain_at, contents, leaf_of, ranges,
 };
 pub use s2ix_table_spans::SpanTable;
 pub use s2ix_table_walk::{Cost, LeafWindow, Meeting, RangeRow, Reader, Window, walk};
-pub use shares_chains::SharesChains;

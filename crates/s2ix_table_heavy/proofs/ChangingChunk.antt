@@ -24,7 +24,7 @@ use Rattle.s2ix_table_heavy.specs.ChangedChunk.{FitsChunk, IsPairOf}
 use Rattle.s2ix_table_heavy.proofs.ChangedCells.{changed_cells}
 use Rattle.s2ix_table_heavy.proofs.Chunked.{in_chunks, of_chunks, ranks_apart}
 use Rattle.s2ix_table_heavy.proofs.HeavyWay.{IsMarked}
-use Rattle.s2ix_table_heavy.proofs.Outwards.{heads_agree}
+use Rattle.s2ix_table_heavy.proofs.Outwards.{same_some}
 
 -- ---- the first pair of a chunk, and the last one
 
@@ -36,7 +36,7 @@ last_greatest n zero (x ∷ xs) last h rises at end i =
     elim (cons_cases x xs h i) [
       | inl e ↦
           (let own = ap (λ (y : Held). rank_of y.pair) e in
-          let same = ap (λ (y : Held). rank_of y.pair) (heads_agree x last at) in
+          let same = ap (λ (y : Held). rank_of y.pair) (same_some x last at) in
           omega arith)
       | inr j ↦ absurd (let lt = j.1 in omega arith)
     ]
@@ -54,7 +54,7 @@ first_least : (n : ℕ) (xs : Collection) (first h : Held) → IsCollectionFrom 
     → rank_of first.pair ≤ rank_of h.pair
 first_least n [] first h rises at i = absurd (none_in_nil h i)
 first_least n (x ∷ xs) first h rises at i =
-    let same = ap (λ (z : Held). rank_of z.pair) (heads_agree x first at) in
+    let same = ap (λ (z : Held). rank_of z.pair) (same_some x first at) in
     elim (cons_cases x xs h i) [
       | inl e ↦ (let own = ap (λ (z : Held). rank_of z.pair) e in omega arith)
       | inr j ↦ (let later = later_rank (rank_of x.pair + 1) xs h rises.2 j in omega arith)

@@ -2,7 +2,6 @@
 use Rattle.std.proofs.Common.{List, [], ap, arith, get_or, inl, inr, length, length-append, suc, sym, zero, ℕ, ◌%◌, ◌+◌, ◌-◌, ◌<◌, ◌∙◌, ◌∷◌, ◌≡◌, ◌≢◌, ◌≤◌}
 use Rattle.std.proofs.lemmas.Bool.{cases_eq}
 use Rattle.s2ix_bag_lists.specs.Faces.{all_of}
-use Rattle.s2ix_bag_lists.specs.Parts.{AreFilled}
 use Rattle.s2ix_bag_pairs.specs.Collection.{Collection}
 use Rattle.s2ix_table_walk.specs.Contents.{contents_at}
 use Rattle.s2ix_table_walk.specs.Table.{range_at, IsFound, leaf_end}
@@ -19,15 +18,6 @@ pub chunk_few : (chunks : List Collection) (k : ℕ) → length (get_or chunks k
 chunk_few [] k = omega arith
 chunk_few (c ∷ cs) zero = let all = length-append c (all_of cs) in omega arith
 chunk_few (c ∷ cs) (suc k) = let rest = chunk_few cs k in let all = length-append c (all_of cs) in omega arith
-
--- there are no more chunks than pairs
-pub chunks_few : (chunks : List Collection) → AreFilled chunks → length chunks ≤ length (all_of chunks)
-chunks_few [] filled = omega arith
-chunks_few (c ∷ cs) filled =
-    let rest = chunks_few cs filled.1 in
-    let own = filled.0 in
-    let all = length-append c (all_of cs) in
-    omega arith
 
 -- ---- over a leaf
 

@@ -8,6 +8,7 @@ use Rattle.s2id_core.proofs.Lists.{at_head}
 use Rattle.s2ix_bag_lists.specs.Faces.{all_of}
 use Rattle.s2ix_bag_lists.specs.Parts.{AreFilled}
 use Rattle.s2ix_bag_lists.proofs.Joins.{back_rises}
+use Rattle.s2ix_bag_lists.proofs.Windows.{filled_count}
 use Rattle.s2ix_bag_pairs.specs.Collection.{Collection, IsCollection, IsCollectionFrom}
 use Rattle.s2ix_bag_pairs.specs.Pair.{rank_of}
 use Rattle.s2ix_bag_pairs.specs.declared.pair.Held.{Held}
@@ -15,8 +16,7 @@ use Rattle.s2ix_table_spans.proofs.BlockChains.{read_front, read_after}
 use Rattle.s2ix_table_spans.proofs.Numbers.{raw_by_rank}
 use Rattle.s2ix_table_heavy.specs.Chunks.{AreChunks, AreMarks, IsMark}
 use Rattle.s2ix_table_heavy.proofs.Chunked.{ranks_across}
-use Rattle.s2ix_table_heavy.proofs.Kept.{chunks_few}
-use Rattle.s2ix_table_heavy.proofs.Outwards.{heads_agree}
+use Rattle.s2ix_table_heavy.proofs.Outwards.{same_some}
 
 -- ---- one after the other
 
@@ -39,7 +39,7 @@ mark_more chunks count marks mark first own = record {
         let more = length_push marks mark in
         let size = first.size in
         let at : k ≡ count = omega arith in
-        let last : mark ≡ m = heads_agree mark m (sym (read_after marks (mark ∷ []) k 0 (omega arith)) ∙ is) in
+        let last : mark ≡ m = same_some mark m (sym (read_after marks (mark ∷ []) k 0 (omega arith)) ∙ is) in
         subst (λ n. IsMark (get_or chunks n []) n m) (sym at) (subst (IsMark (get_or chunks count []) count) last own))
   ];
 }
@@ -88,5 +88,5 @@ pub marks_few : (chunks : List Collection) (marks : Collection) → AreChunks ch
 marks_few chunks marks are mark =
     let size = mark.size in
     let within_limit = are.within_limit in
-    let less = chunks_few chunks are.filled in
+    let less = filled_count chunks are.filled in
     omega arith

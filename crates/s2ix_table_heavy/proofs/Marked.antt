@@ -18,7 +18,7 @@ use Rattle.s2ix_table_walk.proofs.Lists.{deeper_from_key}
 use Rattle.s2ix_table_walk.proofs.Over.{IsOver, nested_over, in_contents, contents_has}
 use Rattle.s2ix_table_heavy.specs.Chunks.{AreChunks, AreMarks}
 use Rattle.s2ix_table_heavy.proofs.Chunked.{in_chunks, of_chunks, ranks_apart, below_by_rank, below_by_level, chunk_outwards}
-use Rattle.s2ix_table_heavy.proofs.Outwards.{IsBelow, Outwards, same_members, append_outwards, contents_outwards, heads_agree}
+use Rattle.s2ix_table_heavy.proofs.Outwards.{IsBelow, Outwards, same_members, append_outwards, contents_outwards, same_some}
 
 -- the chunk that a mark stands for
 abbrev pub chunk_of : List Collection → Held → Collection
@@ -156,7 +156,7 @@ same_mark chunks marks are mark m n h is_m is_n i j =
       | inl e ↦
           (let at_m = (numbered chunks marks mark m is_m).0 in
           let at_n = (numbered chunks marks mark n is_n).0 in
-          heads_agree m n (sym at_m ∙ ap (slice_get marks) e ∙ at_n))
+          same_some m n (sym at_m ∙ ap (slice_get marks) e ∙ at_n))
       | inr (inl lt) ↦ absurd (let apart = ranks_apart 0 chunks k l h h are.rises lt i j in omega arith)
       | inr (inr gt) ↦ absurd (let apart = ranks_apart 0 chunks l k h h are.rises gt j i in omega arith)
     ]

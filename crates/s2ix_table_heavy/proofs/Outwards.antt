@@ -65,15 +65,15 @@ drop_outwards zero xs rise = rise
 drop_outwards (suc n) [] rise = rise
 drop_outwards (suc n) (x ∷ xs) rise = drop_outwards n xs (tail_pairs IsBelow x xs rise)
 
-pub heads_agree : (x y : Held) → Some x ≡ Some y → x ≡ y
-heads_agree x y e = cc
+pub same_some : (x y : Held) → Some x ≡ Some y → x ≡ y
+same_some x y e = cc
 
 -- an end of such a list has the pairs that are not below its first one
 pub in_drop : (n : ℕ) (xs : Collection) (x c : Held) → Outwards xs → slice_get xs n ≡ Some x → Contains (drop n xs) c
     → Contains xs c × (depth_key x ≤ depth_key c)
 in_drop n [] x c rise is i = absurd (cc)
 in_drop zero (y ∷ ys) x c rise is i =
-    let first = ap depth_key (heads_agree y x is) in (
+    let first = ap depth_key (same_some y x is) in (
       i,
       elim (cons_cases y ys c i) [
         | inl e ↦ (let same = ap depth_key e in omega arith)

@@ -15,19 +15,19 @@ use s2ix_bag_lists::merge;
 use s2ix_bag_pairs::{Entry, Held, Pair};
 use std::alloc::Global;
 
-/// What a change makes of the pairs of a chunk, to be put into its place.
+/// A chunk after a change, to be put into its place.
 #[derive(Debug, Drop)]
 pub struct ChangedChunk {
     /// The chunk's number, counted from 0.
     pub number: usize,
-    /// Its pairs then.
+    /// Its pairs after the change.
     pub held: HeldList,
 }
 
 impl HeavyTable {
-    /// What a change makes of the chunk into which all its entries fall. `None` if they fall into none, or into several, or if the chunk
-    /// would have no pair left or more than `max_len`. O(log c + m + k) for m entries and the k pairs of the chunk. `OutOfMemory` if a growth
-    /// is refused.
+    /// What a change makes of the chunk into which all its entries fall: their pairs have its cell, and come behind all pairs in front of it
+    /// and before all pairs behind it. `None` if there is no such chunk, or if it would have no pair left or more than `max_len`.
+    /// O(log c + m + k) for m entries and the k pairs of the chunk. `OutOfMemory` if a growth is refused.
     pub fn changed_chunk(
         &self,
         alloc: Global,
@@ -68,8 +68,8 @@ impl HeavyTable {
         self.chunks[chunk.number] = chunk.held;
     }
 
-    /// The table with a changed chunk in its place, beside this one: the two share the other chunks. O(c). `OutOfMemory` if a growth is
-    /// refused, or a chunk is shared too often.
+    /// Another table, with a changed chunk in its place. The two share the other chunks. O(c). `OutOfMemory` if a growth is refused, or a
+    /// chunk is shared too often.
     pub fn with_chunk(&self, alloc: Global, chunk: ChangedChunk) -> Result<HeavyTable, OutOfMemory>
         requires { FitsChunk self.now chunk.number chunk.held }
         ensures { IfOk result (λ table. table ≡ set self.now chunk.number chunk.held) }

@@ -24,7 +24,8 @@ fn chunk_len(held: &[FlatHeld], max_len: usize) -> usize
     len
 }
 
-/// Held pairs, cut into chunks of at most `max_len` pairs each, but at least one. O(n) for n pairs. `OutOfMemory` if a growth is refused.
+/// Held pairs, cut into chunks: each has pairs of one cell, at most `max_len` of them, or one if `max_len` is 0. O(n) for n pairs.
+/// `OutOfMemory` if a growth is refused.
 pub fn cut_into_chunks(
     alloc: Global,
     held: &[FlatHeld],

@@ -17,8 +17,9 @@ use s2ix_table_spans::SpanTable;
 use std::alloc::Global;
 use std::marker::Model;
 
-/// Held pairs of heavy cells, at most 1,000,000, in chunks: lists of pairs of one cell each, none empty, that rise one after the other.
-/// Contracts see the chunks; `all_of` them is the one rising list of all pairs, and `heavy_chain` leads from a place outwards over them.
+/// Held pairs of heavy cells, at most 1,000,000, in chunks. A chunk is a list of pairs of one cell, and none is empty; one after the other,
+/// the chunks are one rising list of all pairs. Contracts see the chunks; `all_of` them is that list, and `heavy_chain` has the pairs from a
+/// place outwards.
 ///
 /// Costs are in c, the number of the chunks.
 #[derive(Debug, Drop)]
@@ -51,16 +52,15 @@ impl HeavyTable {
         Ok(HeavyTable { chunks, marks })
     }
 
-    /// All chunks, in order. O(1).
+    /// The chunks, in order. O(1).
     pub fn chunks(&self) -> &[HeldList]
         ensures { result.now ≡ self.now }
     {
         self.chunks.as_slice()
     }
 
-    /// The place of the innermost heavy pair over a leaf, which is given by its number, or `None` if there is none; and a later leaf
-    /// number, or the end of all leaves: all leaves from this one up to there lie under the same heavy pairs, and the leaf there, if there
-    /// is one, under others. O(log c).
+    /// The place of the innermost heavy pair over the leaf with this number, or `None` if there is none, and the number of the next leaf
+    /// that lies under other heavy pairs, or the end of all leaves: all leaves up to there lie under the same ones. O(log c).
     pub fn first_over(&self, leaf: u64) -> (Option<HeavyPlace>, u64)
         requires odd { leaf % 2 ≡ 1 }
         requires ends { leaf < leaf_end }
@@ -103,7 +103,7 @@ impl HeavyTable {
         }
     }
 
-    /// Whether a held pair has this cell. O(log c).
+    /// Whether one of the pairs has this cell. O(log c).
     pub fn has_cell(&self, cell: CellId) -> bool
         ensures { IsTrue result ↔ HoldsCell (all_of self.now) cell }
     {

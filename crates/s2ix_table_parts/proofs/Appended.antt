@@ -1,7 +1,7 @@
 -- What lies over a leaf, of one collection after another.
 use Rattle.std.proofs.Common.{◌≡◌, ℕ, ◌+◌, ◌*◌, ◌<◌, ◌≤◌, inl, inr, Bool, false, [], ◌∷◌, ◌++◌, refl, sym, ◌∙◌, ap, arith, Contains}
 use Rattle.std.proofs.lemmas.Bool.{cases_Bool}
-use Rattle.s2id_core.specs.CellId.{raw_of, first_of, end_of}
+use Rattle.s2id_core.specs.CellId.{raw_of}
 use Rattle.s2id_core.proofs.Nested.{span}
 use Rattle.s2id_core.proofs.Lists.{in_tail, at_head}
 use Rattle.s2ix_bag_pairs.specs.Collection.{Collection, IsCollection, IsCollectionFrom, AreBelow}
@@ -12,13 +12,7 @@ use Rattle.s2ix_table_walk.specs.InOrder.{insertion, choice}
 use Rattle.s2ix_table_walk.specs.Contents.{covers, depth_key, contents_at}
 use Rattle.s2ix_table_walk.proofs.InOrder.{choice_in, choice_out}
 use Rattle.s2ix_table_walk.proofs.Over.{over-true}
-
--- cells end by a leaf number, or begin there or later
-abbrev pub EndBy : Collection → ℕ → Type 0
-EndBy hs b = (h : Held) → Contains hs h → end_of h.pair.cell ≤ b
-
-abbrev pub BeginFrom : Collection → ℕ → Type 0
-BeginFrom hs b = (h : Held) → Contains hs h → b ≤ first_of h.pair.cell
+use Rattle.s2ix_table_parts.specs.Parts.{EndsBy, BeginsFrom}
 
 -- ---- chosen of both
 
@@ -49,7 +43,7 @@ choice_back test key (h ∷ hs) ks none =
 -- ---- contents
 
 -- below a cut lies what the first collection holds
-pub contents_front : (q b : ℕ) (hs ks : Collection) → q < b → BeginFrom ks b → contents_at q (hs ++ ks) ≡ contents_at q hs
+pub contents_front : (q b : ℕ) (hs ks : Collection) → q < b → BeginsFrom ks b → contents_at q (hs ++ ks) ≡ contents_at q hs
 unfolding contents_at
 contents_front q b hs ks lt begin =
     choice_front (covers q) depth_key hs ks (λ h held. elim (cases_Bool (covers q h)) [
@@ -58,7 +52,7 @@ contents_front q b hs ks lt begin =
     ])
 
 -- and from the cut on what the second one holds
-pub contents_back : (q b : ℕ) (hs ks : Collection) → b ≤ q → EndBy hs b → contents_at q (hs ++ ks) ≡ contents_at q ks
+pub contents_back : (q b : ℕ) (hs ks : Collection) → b ≤ q → EndsBy hs b → contents_at q (hs ++ ks) ≡ contents_at q ks
 unfolding contents_at
 contents_back q b hs ks le end =
     choice_back (covers q) depth_key hs ks (λ h held. elim (cases_Bool (covers q h)) [
@@ -68,10 +62,10 @@ contents_back q b hs ks le end =
 
 -- ---- the order of both
 
-rank_before : (raw label b : ℕ) → label ≤ 2147483647 → raw < b → raw * 2147483648 + label < b * 2147483648
+pub rank_before : (raw label b : ℕ) → label ≤ 2147483647 → raw < b → raw * 2147483648 + label < b * 2147483648
 rank_before raw label b fits lt = omega arith
 
-pub below_cut : (b : ℕ) (hs : Collection) → EndBy hs b → AreBelow (b * 2147483648) hs
+pub below_cut : (b : ℕ) (hs : Collection) → EndsBy hs b → AreBelow (b * 2147483648) hs
 below_cut b [] end = tt
 below_cut b (h ∷ hs) end =
     let s = span (raw_of h.pair.cell) h.pair.cell.valid in
@@ -81,7 +75,7 @@ below_cut b (h ∷ hs) end =
       below_cut b hs (λ x held. end x (in_tail h hs x held)),
     )
 
-pub from_cut : (b : ℕ) (hs : Collection) → IsCollection hs → BeginFrom hs b → IsCollectionFrom (b * 2147483648) hs
+pub from_cut : (b : ℕ) (hs : Collection) → IsCollection hs → BeginsFrom hs b → IsCollectionFrom (b * 2147483648) hs
 from_cut b [] c begin = tt
 from_cut b (h ∷ hs) c begin =
     let s = span (raw_of h.pair.cell) h.pair.cell.valid in
@@ -91,6 +85,6 @@ from_cut b (h ∷ hs) c begin =
     (omega arith, c.1, c.2)
 
 -- pairs on both sides of a cut rise
-pub both_rise : (b : ℕ) (hs ks : Collection) → EndBy hs b → BeginFrom ks b → IsCollection hs → IsCollection ks → IsCollection (hs ++ ks)
+pub both_rise : (b : ℕ) (hs ks : Collection) → EndsBy hs b → BeginsFrom ks b → IsCollection hs → IsCollection ks → IsCollection (hs ++ ks)
 both_rise b hs ks end begin c d =
     from_append 0 (b * 2147483648) hs ks (omega arith) c (below_cut b hs end) (from_cut b ks d begin)

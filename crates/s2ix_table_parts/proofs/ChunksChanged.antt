@@ -10,6 +10,7 @@ use Rattle.s2id_core.proofs.Cells.{same_cell}
 use Rattle.s2id_core.proofs.Lists.{at_head, in_tail}
 use Rattle.s2ix_bag_lists.specs.Faces.{AreEntriesBelow, all_of}
 use Rattle.s2ix_bag_lists.specs.Parts.{AreEntriesUpTo, AreFilled}
+use Rattle.s2ix_bag_lists.proofs.Cuts.{changed_apart}
 use Rattle.s2ix_bag_lists.proofs.Joined.{rise_in_front}
 use Rattle.s2ix_bag_lists.proofs.Joins.{all_append, all_push, back_rises, filled_append, filled_push, front_rises, later_rank}
 use Rattle.s2ix_bag_pairs.specs.Change.{IsChangeList, IsChangeListFrom, changed}
@@ -20,7 +21,6 @@ use Rattle.s2ix_bag_pairs.specs.declared.pair.Entry.{Entry}
 use Rattle.s2ix_bag_pairs.specs.declared.pair.Held.{Held}
 use Rattle.s2ix_bag_pairs.proofs.Changes.{change_lower}
 use Rattle.s2ix_table_heavy.specs.Chunks.{AreChunks, IsOfOneCell}
-use Rattle.s2ix_table_parts.proofs.Cutting.{changed_apart}
 
 -- ---- whether a pair comes before another
 

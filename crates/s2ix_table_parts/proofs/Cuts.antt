@@ -1,5 +1,5 @@
 -- Where each of neighbouring parts begins and ends.
-use Rattle.std.proofs.Common.{◌≡◌, ℕ, zero, suc, ◌+◌, ◌<◌, ◌≤◌, inl, inr, List, [], ◌∷◌, ◌++◌, length, get_or, take, drop, refl, sym, ◌∙◌, ap, arith, subst, AllPairs, Contains}
+use Rattle.std.proofs.Common.{◌≡◌, ℕ, zero, suc, ◌+◌, ◌<◌, ◌≤◌, inl, inr, List, [], ◌∷◌, length, get_or, take, drop, refl, ◌∙◌, ap, arith, subst, AllPairs, Contains}
 use Rattle.std.proofs.lemmas.Bool.{cases_eq, cases_lt}
 use Rattle.std.proofs.lemmas.List.{get_or-map, length-map}
 use Rattle.std.proofs.lemmas.List.Elements.{Contains-append_cases}
@@ -9,7 +9,7 @@ use Rattle.s2ix_table_walk.proofs.Over.{span_of}
 use Rattle.s2ix_table_spans.specs.SpanTable.{SpanRanges}
 use Rattle.s2ix_table_parts.specs.FaceSpans.{no_table, starts_of}
 use Rattle.s2ix_table_parts.specs.Neighbours.{held_in, AreNeighbours}
-use Rattle.s2ix_table_parts.proofs.Appended.{EndBy}
+use Rattle.s2ix_table_parts.specs.Parts.{EndsBy}
 use Rattle.s2ix_table_parts.proofs.Neighbours.{span_known}
 
 -- where the part of a number begins, of parts from a leaf number on; after the last one where all end
@@ -110,11 +110,6 @@ between a n from parts to are le =
     length_drop (suc n) [] le = absurd (omega arith)
     length_drop (suc n) (x ∷ xs) le = let rest = length_drop n xs (omega arith) in omega arith
 
-pub neighbours_append : (from between to : ℕ) (xs ys : List SpanRanges) → AreNeighbours from xs between → AreNeighbours between ys to
-    → AreNeighbours from (xs ++ ys) to
-neighbours_append from between to [] ys a b = subst (λ n. AreNeighbours n ys to) (sym a) b
-neighbours_append from between to (x ∷ xs) ys a b = (a.0, a.1, neighbours_append x.to between to xs ys a.2 b)
-
 -- ---- their cells
 
 pub neighbours_rise : (from : ℕ) (parts : List SpanRanges) (to : ℕ) → AreNeighbours from parts to → from ≤ to
@@ -124,7 +119,7 @@ neighbours_rise from (t ∷ ts) to are =
     let rest = neighbours_rise t.to ts to are.2 in
     omega arith
 
-pub all_end : (from : ℕ) (parts : List SpanRanges) (to : ℕ) → AreNeighbours from parts to → EndBy (held_in parts) to
+pub all_end : (from : ℕ) (parts : List SpanRanges) (to : ℕ) → AreNeighbours from parts to → EndsBy (held_in parts) to
 all_end from [] to are h held = absurd (none_in_nil h held)
 all_end from (t ∷ ts) to are h held =
     elim (Contains-append_cases t.held (held_in ts) h held) [

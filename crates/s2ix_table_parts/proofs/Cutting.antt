@@ -6,30 +6,30 @@ use Rattle.s2id_core.specs.declared.cell_id.CellId.{CellId}
 use Rattle.s2id_core.proofs.Lists.{none_in_nil, at_head, in_tail}
 use Rattle.s2id_core.proofs.Nested.{span}
 use Rattle.s2ix_bag_lists.specs.Faces.{AreEntriesBelow, all_of}
-use Rattle.s2ix_bag_lists.proofs.Joined.{changed_back, changed_below, changed_by_parts, rise_in_front}
+use Rattle.s2ix_bag_lists.proofs.Cuts.{changed_apart}
+use Rattle.s2ix_bag_lists.proofs.Joined.{changed_below, rise_in_front}
+use Rattle.s2ix_bag_lists.proofs.Joins.{back_rises, front_rises}
 use Rattle.s2ix_bag_pairs.specs.Change.{IsChangeListFrom, changed}
 use Rattle.s2ix_bag_pairs.specs.Collection.{Collection, IsCollection, IsCollectionFrom, AreBelow}
 use Rattle.s2ix_bag_pairs.specs.Label.{value_of}
 use Rattle.s2ix_bag_pairs.specs.Pair.{rank_of}
 use Rattle.s2ix_bag_pairs.specs.declared.pair.Entry.{Entry}
 use Rattle.s2ix_bag_pairs.specs.declared.pair.Held.{Held}
-use Rattle.s2ix_bag_pairs.proofs.Changes.{changed-append, changed_keeps_from, change_lower}
+use Rattle.s2ix_bag_pairs.proofs.Changes.{changed_keeps_from, change_lower}
 use Rattle.s2ix_table_spans.specs.SpanTable.{SpanRanges, IsInSpan}
 use Rattle.s2ix_table_heavy.proofs.ChangedCells.{changed_cells}
 use Rattle.s2ix_table_parts.specs.FaceSpans.{spans_of, TablePart}
 use Rattle.s2ix_table_parts.specs.Neighbours.{held_in, AreNeighbours}
 use Rattle.s2ix_table_parts.specs.Parts.{EndsBy, BeginsFrom, EntriesEndBy, EntriesBeginFrom, AreBegins, IsChangedSpan, IsCut}
-use Rattle.s2ix_table_parts.proofs.Appended.{below_cut, from_cut}
+use Rattle.s2ix_table_parts.proofs.Appended.{below_cut, from_cut, rank_before}
+use Rattle.s2ix_table_parts.proofs.Cuts.{all_end}
 use Rattle.s2ix_table_parts.proofs.Neighbours.{all_begin, all_rise}
-use Rattle.s2ix_table_parts.proofs.Parting.{split_lists, one_more, own_rises, none_after, front_rises, back_rises, ends_append, ends_later, begins_front, ends_back}
+use Rattle.s2ix_table_parts.proofs.Parting.{split_lists, one_more, own_rises, none_after, begins_front, ends_back}
 
 -- ---- entries beside a seam
 
 rank_after : (raw label b : ℕ) → b ≤ raw → b * 2147483648 ≤ raw * 2147483648 + label
 rank_after raw label b le = omega arith
-
-rank_before : (raw label b : ℕ) → label ≤ 2147483647 → raw < b → raw * 2147483648 + label < b * 2147483648
-rank_before raw label b fits lt = omega arith
 
 pub entries_below : (b : ℕ) (es : List Entry) → EntriesEndBy es b → AreEntriesBelow (b * 2147483648) es
 entries_below b [] end = tt
@@ -90,29 +90,12 @@ tables_after from [] to k d are within = absurd (omega arith)
 tables_after from (t ∷ ts) to zero d are within = (refl, are.1, are.2)
 tables_after from (t ∷ ts) to (suc k) d are within = tables_after t.to ts to k d are.2 (omega arith)
 
-pub all_end : (from : ℕ) (ts : List SpanRanges) (to : ℕ) → AreNeighbours from ts to → (from ≤ to) × EndsBy (held_in ts) to
-all_end from [] to are = (omega arith, λ h is. absurd (none_in_nil h is))
-all_end from (t ∷ ts) to are =
-    let rest = all_end t.to ts to are.2 in
-    let le = rest.0 in
-    let e = are.0 in
-    let some = are.1.within.some in
-    (omega arith, ends_append to t.held (held_in ts) (ends_later t.to to t.held le are.1.within.ends) rest.1)
-
 pub held_split : (k : ℕ) (ts : List SpanRanges) → held_in (take k ts) ++ held_in (drop k ts) ≡ held_in ts
 held_split zero ts = refl
 held_split (suc k) [] = refl
 held_split (suc k) (t ∷ ts) = append_assoc t.held (held_in (take k ts)) (held_in (drop k ts)) ∙ ap (λ hs. t.held ++ hs) (held_split k ts)
 
 -- ---- a change on both sides of a seam
-
--- what a change makes of pairs on both sides of a rank
-pub changed_apart : (r : ℕ) (hs ks : Collection) (es fs : List Entry) → AreBelow r hs → IsCollectionFrom r ks → AreEntriesBelow r es
-    → IsChangeListFrom r fs → changed (hs ++ ks) (es ++ fs) ≡ changed hs es ++ changed ks fs
-changed_apart r hs ks es fs below from low high =
-    changed_by_parts (hs ++ ks) es fs
-    ∙ ap (λ xs. changed xs fs) (changed_back r hs ks es low from)
-    ∙ changed-append (changed hs es) ks r fs (changed_below r hs es low below) high
 
 -- what both sides hold then, if lists are cut at the same rank
 pub made_apart : (b from to k l e : ℕ) (d : SpanRanges) (ts : List SpanRanges) (ls : List Collection) (es : List Entry) → k < length ts
@@ -122,7 +105,7 @@ pub made_apart : (b from to k l e : ℕ) (d : SpanRanges) (ts : List SpanRanges)
 made_apart b from to k l e d ts ls es within at was end begin below high =
     let front = subst (λ n. AreNeighbours from (take k ts) n) (sym at) (tables_before from ts to k d was.neighbours within) in
     let back = subst (λ n. AreNeighbours n (drop k ts) to) (sym at) (tables_after from ts to k d was.neighbours within) in
-    let low = below_cut b (held_in (take k ts)) (all_end from (take k ts) b front).1 in
+    let low = below_cut b (held_in (take k ts)) (all_end from (take k ts) b front) in
     let rest = from_cut b (held_in (drop k ts)) (all_rise b (drop k ts) to back) (all_begin b (drop k ts) to back) in
     let own = entries_below b (take e es) end in
     let split = take-append-drop e es in
@@ -165,7 +148,7 @@ clean_cut b from to k l e d ts ls es within lists_fit entries_fit at was end beg
         within_limit = omega arith;
         begins = begins_front from (all_of (take l ls)) (all_of (drop l ls)) (subst (λ hs. BeginsFrom hs from) (sym split) was.begins);
         ends = subst (λ hs. EndsBy hs b) made.0
-            (changed_cells (λ (c : CellId). end_of c ≤ b) (held_in (take k ts)) (take e es) (all_end from (take k ts) b front).1 end);
+            (changed_cells (λ (c : CellId). end_of c ≤ b) (held_in (take k ts)) (take e es) (all_end from (take k ts) b front) end);
       };
       later = record {
         neighbours = back;

@@ -16,9 +16,9 @@ use Rattle.s2ix_table_heavy.specs.declared.heavy_place.HeavyPlace.{HeavyPlace}
 use Rattle.s2ix_table_parts.specs.FaceSpans.{AreOnFace, face_begin, no_table, table_of}
 use Rattle.s2ix_table_parts.specs.Neighbours.{AreNeighbours, held_in}
 use Rattle.s2ix_table_parts.specs.Layered.{HaveOtherCells, IsFaceLayered, IsFaceWith, goes_over, is_cut}
-use Rattle.s2ix_table_parts.specs.Layers.{AreLayersBy, ShareNoCell, entries_where, fails, holds_cell, together}
+use Rattle.s2ix_table_parts.specs.Layers.{AreLayersBy, ShareNoCell, entries_where, opposite, holds_cell, joined_layers}
 use Rattle.s2ix_table_parts.proofs.Cuts.{cut, cut_is, cut_rises}
-use Rattle.s2ix_table_parts.proofs.FaceWith.{all_gave_way, length_overs}
+use Rattle.s2ix_table_parts.proofs.FaceWith.{all_gave_way, length_heavy_places}
 use Rattle.s2ix_table_parts.proofs.HeavyFirst.{by_layers, few_heavy, heavy_entries, heavy_on_face, holds_found, not_found}
 use Rattle.s2ix_table_parts.proofs.HeldWhere.{entries_rise}
 use Rattle.s2ix_table_parts.proofs.Neighbours.{all_begin, all_rise}
@@ -114,11 +114,11 @@ over_entries ts heavy es = entries_where (goes_over ts (all_of heavy)) es
 
 -- and the others
 abbrev pub other_entries : List SpanRanges → List Collection → List Entry → List Entry
-other_entries ts heavy es = entries_where (fails (goes_over ts (all_of heavy))) es
+other_entries ts heavy es = entries_where (opposite (goes_over ts (all_of heavy))) es
 
-face_layers : (face : ℕ) (ts : List SpanRanges) (overs : List (Option HeavyPlace)) (heavy : List Collection) → IsFaceLayered face heavy ts overs
+face_layers : (face : ℕ) (ts : List SpanRanges) (heavy_places : List (Option HeavyPlace)) (heavy : List Collection) → IsFaceLayered face heavy ts heavy_places
     → AreLayersBy (goes_over ts (all_of heavy)) (held_in ts) (all_of heavy)
-face_layers face ts overs heavy was = over_layers (face_begin face) ts (face_begin (face + 1)) (all_of heavy) was.neighbours was.apart
+face_layers face ts heavy_places heavy was = over_layers (face_begin face) ts (face_begin (face + 1)) (all_of heavy) was.neighbours was.apart
 
 -- what holds of entries that go over the parts of a face
 pub record AreOver (face : ℕ) (ts : List SpanRanges) (heavy : List Collection) (own : List Entry) : Type 0 where
@@ -127,12 +127,12 @@ pub record AreOver (face : ℕ) (ts : List SpanRanges) (heavy : List Collection)
   pub on_face : AreOnFace face (changed (all_of heavy) own)
   pub within_limit : length (changed (all_of heavy) own) ≤ 1000000
 
-pub are_over : (face : ℕ) (ts : List SpanRanges) (overs : List (Option HeavyPlace)) (heavy : List Collection) (es own : List Entry)
-    → IsFaceLayered face heavy ts overs → IsChangeList es → AreOnFace face (changed (together (held_in ts) (all_of heavy)) es)
-    → length (changed (together (held_in ts) (all_of heavy)) es) ≤ 1000000 → own ≡ over_entries ts heavy es → AreOver face ts heavy own
-are_over face ts overs heavy es own was rise on_face within_limit is =
+pub are_over : (face : ℕ) (ts : List SpanRanges) (heavy_places : List (Option HeavyPlace)) (heavy : List Collection) (es own : List Entry)
+    → IsFaceLayered face heavy ts heavy_places → IsChangeList es → AreOnFace face (changed (joined_layers (held_in ts) (all_of heavy)) es)
+    → length (changed (joined_layers (held_in ts) (all_of heavy)) es) ≤ 1000000 → own ≡ over_entries ts heavy es → AreOver face ts heavy own
+are_over face ts heavy_places heavy es own was rise on_face within_limit is =
     let test = goes_over ts (all_of heavy) in
-    let layers = face_layers face ts overs heavy was in
+    let layers = face_layers face ts heavy_places heavy was in
     let c = all_rise (face_begin face) ts (face_begin (face + 1)) was.neighbours in
     let d = was.are_chunks.rises in
     subst (AreOver face ts heavy) (sym is) (record {
@@ -143,21 +143,21 @@ are_over face ts overs heavy es own was rise on_face within_limit is =
     })
 
 -- the face after them, and what the others make of it
-pub over_first : (face : ℕ) (ts shown : List SpanRanges) (overs now_overs : List (Option HeavyPlace)) (heavy now : List Collection)
-    (es own other : List Entry) (first end : ℕ) → IsFaceLayered face heavy ts overs → IsChangeList es → own ≡ over_entries ts heavy es
+pub over_first : (face : ℕ) (ts shown : List SpanRanges) (heavy_places now_heavy_places : List (Option HeavyPlace)) (heavy now : List Collection)
+    (es own other : List Entry) (first end : ℕ) → IsFaceLayered face heavy ts heavy_places → IsChangeList es → own ≡ over_entries ts heavy es
     → other ≡ other_entries ts heavy es → first ≡ 0 → end ≡ length ts
-    → IsFaceWith face (changed (together (held_in ts) (all_of heavy)) own) ts overs first end shown now_overs now
-    → IsFaceLayered face now shown now_overs
-    × (changed (together (held_in shown) (all_of now)) other ≡ changed (together (held_in ts) (all_of heavy)) es)
-over_first face ts shown overs now_overs heavy now es own other first end was rise is rest none last with =
+    → IsFaceWith face (changed (joined_layers (held_in ts) (all_of heavy)) own) ts heavy_places first end shown now_heavy_places now
+    → IsFaceLayered face now shown now_heavy_places
+    × (changed (joined_layers (held_in shown) (all_of now)) other ≡ changed (joined_layers (held_in ts) (all_of heavy)) es)
+over_first face ts shown heavy_places now_heavy_places heavy now es own other first end was rise is rest none last with =
     let test = goes_over ts (all_of heavy) in
-    let layers = face_layers face ts overs heavy was in
+    let layers = face_layers face ts heavy_places heavy was in
     let light : Collection = held_in ts in
     let c = all_rise (face_begin face) ts (face_begin (face + 1)) was.neighbours in
-    let there = all_gave_way face (length ts) first end (changed (together light (all_of heavy)) own) ts shown overs now_overs now none last refl
-    (length_overs heavy ts overs was.overs_are) with in (
+    let there = all_gave_way face (length ts) first end (changed (joined_layers light (all_of heavy)) own) ts shown heavy_places now_heavy_places now none last refl
+    (length_heavy_places heavy ts heavy_places was.are_heavy_places) with in (
       there.0,
-      ap (λ hs. changed hs other) (there.1 ∙ ap (changed (together light (all_of heavy))) is)
-          ∙ ap (changed (changed (together light (all_of heavy)) (entries_where test es))) rest
+      ap (λ hs. changed hs other) (there.1 ∙ ap (changed (joined_layers light (all_of heavy))) is)
+          ∙ ap (changed (changed (joined_layers light (all_of heavy)) (entries_where test es))) rest
           ∙ by_layers test light (all_of heavy) es layers c was.are_chunks.rises rise,
     )

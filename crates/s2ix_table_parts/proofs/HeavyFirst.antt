@@ -20,11 +20,11 @@ use Rattle.s2ix_table_parts.specs.FaceSpans.{AreOnFace}
 use Rattle.s2ix_table_parts.specs.Neighbours.{held_in}
 use Rattle.s2ix_table_parts.specs.Layered.{HaveLightCells, HaveOtherCells, IsFaceLayered, IsFaceWith}
 use Rattle.s2ix_table_parts.specs.Parts.{with_parts}
-use Rattle.s2ix_table_parts.specs.Layers.{AreLayersBy, entries_where, fails, holds_cell, together}
+use Rattle.s2ix_table_parts.specs.Layers.{AreLayersBy, entries_where, opposite, holds_cell, joined_layers}
 use Rattle.s2ix_table_parts.proofs.HeavyChanged.{heavy_layer}
 use Rattle.s2ix_table_parts.proofs.HeldWhere.{entries_rise}
-use Rattle.s2ix_table_parts.proofs.Layers.{cells_part_pairs, heavy_in_together, length_together}
-use Rattle.s2ix_table_parts.proofs.LayersChanged.{changed_layers, changed_together, false_from_fails, layers_share_no_cell}
+use Rattle.s2ix_table_parts.proofs.Layers.{cells_part_pairs, heavy_in_joined_layers, length_joined_layers}
+use Rattle.s2ix_table_parts.proofs.LayersChanged.{changed_layers, changed_joined_layers, false_from_opposite, layers_share_no_cell}
 use Rattle.s2ix_table_parts.proofs.LightChanged.{light_layer}
 
 -- ---- the test
@@ -104,71 +104,71 @@ one_fails test es own i e was lt is f =
 
 -- the other entries have no cell of a pair that is heavy then
 light_still : (test : CellId → Bool) (light heavy : Collection) (es : List Entry) → AreLayersBy test light heavy → IsCollection light
-    → IsCollection heavy → HaveLightCells (entries_where (fails test) es) (changed heavy (entries_where test es))
+    → IsCollection heavy → HaveLightCells (entries_where (opposite test) es) (changed heavy (entries_where test es))
 light_still test light heavy es layers c d e held holds =
     let is = (changed_layers test light heavy es layers c d).heavy_passes holds.0 holds.1 in
-    let not = false_from_fails test e.pair.cell (in_entries (fails test) es e held).1 in
+    let not = false_from_opposite test e.pair.cell (in_entries (opposite test) es e held).1 in
     both_ways (test e.pair.cell) not (ap test (sym holds.2) ∙ is)
 
 -- the change, of the heavy entries and then of the others
 pub by_layers : (test : CellId → Bool) (light heavy : Collection) (es : List Entry) → AreLayersBy test light heavy → IsCollection light
     → IsCollection heavy → IsChangeList es
-    → changed (changed (together light heavy) (entries_where test es)) (entries_where (fails test) es) ≡ changed (together light heavy) es
+    → changed (changed (joined_layers light heavy) (entries_where test es)) (entries_where (opposite test) es) ≡ changed (joined_layers light heavy) es
 by_layers test light heavy es layers c d rise =
     let own = entries_where test es in
-    let other = entries_where (fails test) es in
+    let other = entries_where (opposite test) es in
     ap (λ hs. changed hs other)
     (heavy_layer light heavy own c d (layers_share_no_cell test light heavy layers) (entries_rise test 0 es rise)
     (heavy_entries test light heavy es layers))
     ∙ light_layer light (changed heavy own) other c (light_still test light heavy es layers c d)
-    ∙ sym (changed_together test light heavy es layers c d rise)
+    ∙ sym (changed_joined_layers test light heavy es layers c d rise)
 
 -- the heavy pairs are few then, if all are
 pub few_heavy : (test : CellId → Bool) (light heavy : Collection) (es : List Entry) → AreLayersBy test light heavy → IsCollection light
-    → IsCollection heavy → IsChangeList es → length (changed (together light heavy) es) ≤ 1000000
+    → IsCollection heavy → IsChangeList es → length (changed (joined_layers light heavy) es) ≤ 1000000
     → length (changed heavy (entries_where test es)) ≤ 1000000
 few_heavy test light heavy es layers c d rise within_limit =
     let own = changed heavy (entries_where test es) in
-    let other = entries_where (fails test) es in
-    let both = ap (λ (hs : Collection). length hs) (changed_together test light heavy es layers c d rise) in
+    let other = entries_where (opposite test) es in
+    let both = ap (λ (hs : Collection). length hs) (changed_joined_layers test light heavy es layers c d rise) in
     let then = changed_layers test light heavy es layers c d in
-    let sum = length_together (changed light other) own (changed_keeps light other c (entries_rise (fails test) 0 es rise))
+    let sum = length_joined_layers (changed light other) own (changed_keeps light other c (entries_rise (opposite test) 0 es rise))
     (changed_keeps heavy (entries_where test es) d (entries_rise test 0 es rise))
     (cells_part_pairs (changed light other) own (layers_share_no_cell test (changed light other) own then)) in
     omega arith
 
 -- and on the face, if all are
 pub heavy_on_face : (face : ℕ) (test : CellId → Bool) (light heavy : Collection) (es : List Entry) → AreLayersBy test light heavy
-    → IsCollection light → IsCollection heavy → IsChangeList es → AreOnFace face (changed (together light heavy) es)
+    → IsCollection light → IsCollection heavy → IsChangeList es → AreOnFace face (changed (joined_layers light heavy) es)
     → AreOnFace face (changed heavy (entries_where test es))
 heavy_on_face face test light heavy es layers c d rise on h is =
     let own = changed heavy (entries_where test es) in
-    let other = entries_where (fails test) es in
-    let light_is = changed_keeps light other c (entries_rise (fails test) 0 es rise) in
+    let other = entries_where (opposite test) es in
+    let light_is = changed_keeps light other c (entries_rise (opposite test) 0 es rise) in
     let heavy_is = changed_keeps heavy (entries_where test es) d (entries_rise test 0 es rise) in
-    on h (subst (λ (hs : Collection). Contains hs h) (sym (changed_together test light heavy es layers c d rise))
-    (heavy_in_together (changed light other) own h light_is heavy_is is))
+    on h (subst (λ (hs : Collection). Contains hs h) (sym (changed_joined_layers test light heavy es layers c d rise))
+    (heavy_in_joined_layers (changed light other) own h light_is heavy_is is))
 
 -- ---- the face then
 
 -- other parts in the place of some of a face
-pub put_light : (face : ℕ) (held : Collection) (ts made now : List SpanRanges) (overs made_overs now_overs : List (Option HeavyPlace))
-    (heavy same new : List Collection) (first end : ℕ) → IsFaceWith face held ts overs first end made made_overs same → same ≡ heavy → new ≡ heavy
-    → now ≡ with_parts ts first end made → now_overs ≡ take first overs ++ (made_overs ++ drop end overs)
-    → IsFaceLayered face new now now_overs × (together (held_in now) (all_of new) ≡ held)
-put_light face held ts made now overs made_overs now_overs heavy same new first end is same_is new_is put put_overs =
+pub put_light : (face : ℕ) (held : Collection) (ts made now : List SpanRanges) (heavy_places made_heavy_places now_heavy_places : List (Option HeavyPlace))
+    (heavy same new : List Collection) (first end : ℕ) → IsFaceWith face held ts heavy_places first end made made_heavy_places same → same ≡ heavy → new ≡ heavy
+    → now ≡ with_parts ts first end made → now_heavy_places ≡ take first heavy_places ++ (made_heavy_places ++ drop end heavy_places)
+    → IsFaceLayered face new now now_heavy_places × (joined_layers (held_in now) (all_of new) ≡ held)
+put_light face held ts made now heavy_places made_heavy_places now_heavy_places heavy same new first end is same_is new_is put put_heavy_places =
     let heavy_is : new ≡ same = new_is ∙ sym same_is in (
-      subst (λ cs. IsFaceLayered face cs now now_overs) (sym heavy_is)
-          (subst (λ us. IsFaceLayered face same us now_overs) (sym put)
-          (subst (λ os. IsFaceLayered face same (with_parts ts first end made) os) (sym put_overs) is.layered)),
-      ap₂ (λ us cs. together (held_in us) (all_of cs)) put heavy_is ∙ is.pairs,
+      subst (λ cs. IsFaceLayered face cs now now_heavy_places) (sym heavy_is)
+          (subst (λ us. IsFaceLayered face same us now_heavy_places) (sym put)
+          (subst (λ os. IsFaceLayered face same (with_parts ts first end made) os) (sym put_heavy_places) is.layered)),
+      ap₂ (λ us cs. joined_layers (held_in us) (all_of cs)) put heavy_is ∙ is.pairs,
     )
 
 -- the same of equal parts and places
-pub with_same : (face : ℕ) (heavy : Collection) (es : List Entry) (us ts made : List SpanRanges) (other_overs overs made_overs : List (Option HeavyPlace))
+pub with_same : (face : ℕ) (heavy : Collection) (es : List Entry) (us ts made : List SpanRanges) (other_heavy_places heavy_places made_heavy_places : List (Option HeavyPlace))
     (chunks : List Collection) (first end : ℕ)
-    → IsFaceWith face (changed (together (held_in us) heavy) es) us other_overs first end made made_overs chunks → us ≡ ts → other_overs ≡ overs
-    → IsFaceWith face (changed (together (held_in ts) heavy) es) ts overs first end made made_overs chunks
-with_same face heavy es us ts made other_overs overs made_overs chunks first end is same same_overs =
-    subst (λ os. IsFaceWith face (changed (together (held_in ts) heavy) es) ts os first end made made_overs chunks) same_overs
-    (subst (λ xs. IsFaceWith face (changed (together (held_in xs) heavy) es) xs other_overs first end made made_overs chunks) same is)
+    → IsFaceWith face (changed (joined_layers (held_in us) heavy) es) us other_heavy_places first end made made_heavy_places chunks → us ≡ ts → other_heavy_places ≡ heavy_places
+    → IsFaceWith face (changed (joined_layers (held_in ts) heavy) es) ts heavy_places first end made made_heavy_places chunks
+with_same face heavy es us ts made other_heavy_places heavy_places made_heavy_places chunks first end is same same_heavy_places =
+    subst (λ os. IsFaceWith face (changed (joined_layers (held_in ts) heavy) es) ts os first end made made_heavy_places chunks) same_heavy_places
+    (subst (λ xs. IsFaceWith face (changed (joined_layers (held_in xs) heavy) es) xs other_heavy_places first end made made_heavy_places chunks) same is)

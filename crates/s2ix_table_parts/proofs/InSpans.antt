@@ -55,10 +55,3 @@ face_in_span face held on = record {
   begins = λ h is. let e = on h is in let le = (cell_on_face h.pair.cell).0 in omega (arith, le, ap face_begin e);
   ends = λ h is. let e = on h is in let le = (cell_on_face h.pair.cell).1 in omega (arith, le, ap (λ f. face_begin (f + 1)) e);
 }
-
--- the leaf numbers by which the program knows a face
-pub begins_at : (face read : ℕ) → read ≡ face → face_begin face ≡ read * 2305843009213693952 + 1
-begins_at face read is = omega (arith, is)
-
-pub ends_at : (face read : ℕ) → read ≡ face → face_begin (face + 1) ≡ read * 2305843009213693952 + 1 + 2305843009213693952
-ends_at face read is = omega (arith, is)

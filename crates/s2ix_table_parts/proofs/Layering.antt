@@ -5,6 +5,7 @@ use Rattle.s2id_core.specs.CellId.{raw_of}
 use Rattle.s2id_core.proofs.Lists.{at_head}
 use Rattle.s2id_core.proofs.Nested.{span}
 use Rattle.s2ix_bag_lists.specs.Faces.{all_of}
+use Rattle.s2ix_bag_lists.proofs.Joins.{front_rises}
 use Rattle.s2ix_bag_pairs.specs.Collection.{Collection, IsCollection, IsCollectionFrom}
 use Rattle.s2ix_bag_pairs.specs.Label.{value_of}
 use Rattle.s2ix_bag_pairs.specs.declared.pair.Held.{Held}
@@ -17,12 +18,14 @@ use Rattle.s2ix_table_heavy.specs.HeavyChains.{heavy_chain}
 use Rattle.s2ix_table_heavy.specs.declared.heavy_place.HeavyPlace.{HeavyPlace}
 use Rattle.s2ix_table_parts.specs.Neighbours.{AreNeighbours, held_in}
 use Rattle.s2ix_table_parts.specs.FaceSpans.{AreOnFace, face_begin}
-use Rattle.s2ix_table_parts.specs.Layered.{IsUnder, AreOvers, AreLightParts, IsFaceLayered}
+use Rattle.s2ix_table_parts.specs.Layered.{IsUnder, AreHeavyPlaces, AreLightParts, IsFaceLayered}
 use Rattle.s2ix_table_parts.specs.Layers.{ShareNoCell}
 use Rattle.s2ix_table_parts.specs.Parts.{EndsBy, BeginsFrom}
 use Rattle.s2ix_table_parts.proofs.Appended.{from_cut}
-use Rattle.s2ix_table_parts.proofs.Cutting.{all_end, neighbours_append, held_append}
-use Rattle.s2ix_table_parts.proofs.Parting.{front_rises, begins_earlier, ends_back, ends_later}
+use Rattle.s2ix_table_parts.proofs.Cuts.{neighbours_rise}
+use Rattle.s2ix_table_parts.proofs.Cutting.{neighbours_append, held_append}
+use Rattle.s2ix_table_parts.proofs.FaceWith.{heavy_places_append}
+use Rattle.s2ix_table_parts.proofs.Parting.{begins_earlier, ends_back, ends_later}
 
 -- ---- parts under the same heavy pairs
 
@@ -42,29 +45,23 @@ is_under chunks start until from to over is odd ge some le =
 
 -- so all parts within such a span have this place
 pub all_over : (chunks : List Collection) (start until from : ℕ) (ts : List SpanRanges) (to : ℕ) (over : Option HeavyPlace)
-    → IsOver chunks start until over → AreNeighbours from ts to → start ≤ from → to ≤ until → AreOvers chunks ts (replicate (length ts) over)
+    → IsOver chunks start until over → AreNeighbours from ts to → start ≤ from → to ≤ until → AreHeavyPlaces chunks ts (replicate (length ts) over)
 all_over chunks start until from [] to over is are ge le = refl
 all_over chunks start until from (t ∷ ts) to over is are ge le =
     let begin = are.0 in
     let within = are.1.within in
     let some = within.some in
-    let later = (all_end t.to ts to are.2).0 in (
+    let later = neighbours_rise t.to ts to are.2 in (
       is_under chunks start until t.from t.to over is within.odd (omega arith) some (omega arith),
       all_over chunks start until t.to ts to over is are.2 (omega arith) le,
     )
 
-pub overs_append : (chunks : List Collection) (ts us : List SpanRanges) (xs ys : List (Option HeavyPlace)) → AreOvers chunks ts xs
-    → AreOvers chunks us ys → AreOvers chunks (ts ++ us) (xs ++ ys)
-overs_append chunks [] us xs ys a b = subst (λ zs. AreOvers chunks us (zs ++ ys)) (sym a) b
-overs_append chunks (t ∷ ts) us [] ys a b = absurd a
-overs_append chunks (t ∷ ts) us (x ∷ xs) ys a b = (a.0, overs_append chunks ts us xs ys a.1 b)
-
 -- ---- span by span
 
 -- the first light pairs lie in parts up to a leaf number, and the rest has cells from that number on
-pub record Layering (chunks : List Collection) (light : Collection) (from to : ℕ) (parts : List SpanRanges) (overs : List (Option HeavyPlace)) (rest : Collection) (start : ℕ) : Type 0 where
+pub record Layering (chunks : List Collection) (light : Collection) (from to : ℕ) (parts : List SpanRanges) (heavy_places : List (Option HeavyPlace)) (rest : Collection) (start : ℕ) : Type 0 where
   pub neighbours : AreNeighbours from parts start
-  pub overs_are : AreOvers chunks parts overs
+  pub are_heavy_places : AreHeavyPlaces chunks parts heavy_places
   pub whole : held_in parts ++ rest ≡ light
   pub odd : start % 2 ≡ 1
   pub by : start ≤ to
@@ -78,7 +75,7 @@ layering_start chunks light from to rises within_limit within =
     let some = within.some in
     record {
       neighbours = refl;
-      overs_are = refl;
+      are_heavy_places = refl;
       whole = refl;
       odd = within.odd;
       by = omega arith;
@@ -88,12 +85,12 @@ layering_start chunks light from to rises within_limit within =
     }
 
 -- those up to a place of the rest, over the next span
-pub own_span : (chunks : List Collection) (light : Collection) (from to : ℕ) (parts : List SpanRanges) (overs : List (Option HeavyPlace))
+pub own_span : (chunks : List Collection) (light : Collection) (from to : ℕ) (parts : List SpanRanges) (heavy_places : List (Option HeavyPlace))
     (rest : Collection)
-    (start end begin last count : ℕ) → Layering chunks light from to parts overs rest start → start < end → end % 2 ≡ 1 → BeginsFrom
+    (start end begin last count : ℕ) → Layering chunks light from to parts heavy_places rest start → start < end → end % 2 ≡ 1 → BeginsFrom
     (take count rest) begin
     → start ≤ begin → EndsBy (take count rest) last → last ≤ end → IsInSpan (take count rest) start end
-own_span chunks light from to parts overs rest start end begin last count was some odd begins ge ends le =
+own_span chunks light from to parts heavy_places rest start end begin last count was some odd begins ge ends le =
     record {
       odd = was.odd;
       odd_end = odd;
@@ -102,10 +99,10 @@ own_span chunks light from to parts overs rest start end begin last count was so
       ends = ends_later last end (take count rest) le ends;
     }
 
-pub own_rises : (chunks : List Collection) (light : Collection) (from to : ℕ) (parts : List SpanRanges) (overs : List (Option HeavyPlace))
+pub own_rises : (chunks : List Collection) (light : Collection) (from to : ℕ) (parts : List SpanRanges) (heavy_places : List (Option HeavyPlace))
     (rest : Collection)
-    (start count : ℕ) → Layering chunks light from to parts overs rest start → IsCollection (take count rest)
-own_rises chunks light from to parts overs rest start count was =
+    (start count : ℕ) → Layering chunks light from to parts heavy_places rest start → IsCollection (take count rest)
+own_rises chunks light from to parts heavy_places rest start count was =
     let n : ℕ = start * 2147483648 in
     from_lower 0 n (take count rest) (omega arith)
     (front_rises n (take count rest) (drop count rest) (subst (λ hs. IsCollectionFrom n hs) (sym (take-append-drop count rest)) was.rises))
@@ -118,19 +115,19 @@ pub own_few : (count : ℕ) (rest : Collection) → length rest ≤ 1000000 → 
 own_few count rest within_limit = let both = both_counts count rest in omega arith
 
 pub layering_next : (chunks : List Collection) (light : Collection) (from to : ℕ) (parts ts : List SpanRanges)
-    (overs : List (Option HeavyPlace)) (rest : Collection)
-    (start end until count : ℕ) (over : Option HeavyPlace) → Layering chunks light from to parts overs rest start
+    (heavy_places : List (Option HeavyPlace)) (rest : Collection)
+    (start end until count : ℕ) (over : Option HeavyPlace) → Layering chunks light from to parts heavy_places rest start
     → IsOver chunks start until over
     → end ≤ until → end ≤ to → end % 2 ≡ 1 → AreNeighbours start ts end → held_in ts ≡ take count rest
     → IsCollectionFrom (end * 2147483648) (drop count rest)
-    → Layering chunks light from to (parts ++ ts) (overs ++ replicate (length ts) over) (drop count rest) end
-layering_next chunks light from to parts ts overs rest start end until count over was is le by odd are made later =
+    → Layering chunks light from to (parts ++ ts) (heavy_places ++ replicate (length ts) over) (drop count rest) end
+layering_next chunks light from to parts ts heavy_places rest start end until count over was is le by odd are made later =
     let split = take-append-drop count rest in
     let both = both_counts count rest in
     let within_limit = was.within_limit in
     record {
       neighbours = neighbours_append from parts start ts end was.neighbours are;
-      overs_are = overs_append chunks parts ts overs (replicate (length ts) over) was.overs_are
+      are_heavy_places = heavy_places_append chunks parts ts heavy_places (replicate (length ts) over) was.are_heavy_places
           (all_over chunks start until start ts end over is are (omega arith) le);
       whole = ap (λ (hs : Collection). hs ++ drop count rest) (held_append parts ts)
           ∙ append_assoc (held_in parts) (held_in ts) (drop count rest)
@@ -157,42 +154,42 @@ none_left leaf (h ∷ hs) rises ends =
     too_far raw label b fits lt le = omega arith
 
 pub layering_end : (chunks : List Collection) (light : Collection) (from to : ℕ) (parts : List SpanRanges)
-    (overs : List (Option HeavyPlace)) (rest : Collection)
-    (start : ℕ) → Layering chunks light from to parts overs rest start → to ≤ start → AreLightParts chunks light from parts overs to
-layering_end chunks light from to parts overs rest start was le =
+    (heavy_places : List (Option HeavyPlace)) (rest : Collection)
+    (start : ℕ) → Layering chunks light from to parts heavy_places rest start → to ≤ start → AreLightParts chunks light from parts heavy_places to
+layering_end chunks light from to parts heavy_places rest start was le =
     let by = was.by in
     let at : start ≡ to = omega arith in
     let none = none_left to rest (subst (λ n. IsCollectionFrom (n * 2147483648) rest) at was.rises) was.ends in
     record {
       neighbours = subst (λ n. AreNeighbours from parts n) at was.neighbours;
       pairs = sym (ap (λ (hs : Collection). held_in parts ++ hs) none ∙ append-nil (held_in parts)) ∙ was.whole;
-      overs_are = was.overs_are;
+      are_heavy_places = was.are_heavy_places;
     }
 
 -- the same of equal things
 pub layering_same : (chunks : List Collection) (light : Collection) (from to : ℕ) (parts ts : List SpanRanges)
-    (overs xs : List (Option HeavyPlace))
-    (rest hs : Collection) (start : ℕ) → Layering chunks light from to parts overs rest start → ts ≡ parts → xs ≡ overs → hs ≡ rest
+    (heavy_places xs : List (Option HeavyPlace))
+    (rest hs : Collection) (start : ℕ) → Layering chunks light from to parts heavy_places rest start → ts ≡ parts → xs ≡ heavy_places → hs ≡ rest
     → Layering chunks light from to ts xs hs start
-layering_same chunks light from to parts ts overs xs rest hs start was e f g =
+layering_same chunks light from to parts ts heavy_places xs rest hs start was e f g =
     subst (λ (ys : Collection). Layering chunks light from to ts xs ys start) (sym g)
     (subst (λ (ys : List (Option HeavyPlace)). Layering chunks light from to ts ys rest start) (sym f)
-    (subst (λ (ys : List SpanRanges). Layering chunks light from to ys overs rest start) (sym e) was))
+    (subst (λ (ys : List SpanRanges). Layering chunks light from to ys heavy_places rest start) (sym e) was))
 
 -- ---- both layers
 
 -- the parts of light pairs on a face and the chunks over them are its two layers
 pub two_layers : (face : ℕ) (held light : Collection) (chunks heavy : List Collection) (parts : List SpanRanges)
-    (overs : List (Option HeavyPlace))
-    → AreLightParts chunks light (face_begin face) parts overs (face_begin (face + 1)) → heavy ≡ chunks → AreChunks chunks
+    (heavy_places : List (Option HeavyPlace))
+    → AreLightParts chunks light (face_begin face) parts heavy_places (face_begin (face + 1)) → heavy ≡ chunks → AreChunks chunks
     → ShareNoCell light (all_of chunks) → ((h : Held) → Contains (all_of chunks) h → Contains held h) → AreOnFace face held
-    → IsFaceLayered face heavy parts overs
-two_layers face held light chunks heavy parts overs are same in_chunks apart of_held on_face =
-    subst (λ (cs : List Collection). IsFaceLayered face cs parts overs) (sym same)
+    → IsFaceLayered face heavy parts heavy_places
+two_layers face held light chunks heavy parts heavy_places are same in_chunks apart of_held on_face =
+    subst (λ (cs : List Collection). IsFaceLayered face cs parts heavy_places) (sym same)
     (record {
       neighbours = are.neighbours;
       are_chunks = in_chunks;
       on_face = λ h is. on_face h (of_held h is);
       apart = subst (λ (hs : Collection). ShareNoCell hs (all_of chunks)) (sym are.pairs) apart;
-      overs_are = are.overs_are;
+      are_heavy_places = are.are_heavy_places;
     })

@@ -10,7 +10,7 @@ use Rattle.s2ix_bag_pairs.specs.declared.pair.Held.{Held}
 use Rattle.s2ix_bag_pairs.proofs.Collections.{same_collection, count_set_other, count_set_same, set_keeps, held_count, counted_held}
 use Rattle.s2ix_bag_pairs.proofs.Counts.{count_head, count_tail, count_below, set_before, set_after}
 use Rattle.s2ix_bag_pairs.proofs.Pairs.{same_held, same_pair}
-use Rattle.s2ix_table_parts.specs.Layers.{together, ShareNoPair, ShareNoCell}
+use Rattle.s2ix_table_parts.specs.Layers.{joined_layers, ShareNoPair, ShareNoCell}
 
 -- layers that share no cell share no pair
 pub cells_part_pairs : (light heavy : Collection) → ShareNoCell light heavy → ShareNoPair light heavy
@@ -20,17 +20,17 @@ cells_part_pairs light heavy apart l h in_light in_heavy same =
 -- ---- they are a collection
 
 -- what two layers hold together is a collection
-pub together_rises : (light heavy : Collection) → IsCollection light → IsCollection (together light heavy)
-unfolding together
-together_rises light [] c = c
-together_rises light (h ∷ hs) c = together_rises (set_count h.pair h.count light) hs (set_keeps h.pair h.count light c)
+pub joined_layers_rise : (light heavy : Collection) → IsCollection light → IsCollection (joined_layers light heavy)
+unfolding joined_layers
+joined_layers_rise light [] c = c
+joined_layers_rise light (h ∷ hs) c = joined_layers_rise (set_count h.pair h.count light) hs (set_keeps h.pair h.count light c)
 
 -- ---- their counts
 
 -- a pair that isn't heavy has the count that it has among the light ones
 pub count_light : (n : ℕ) (light heavy : Collection) (k : ℕ) → IsCollection light → IsCollectionFrom n heavy → count_at heavy k ≡ 0
-    → count_at (together light heavy) k ≡ count_at light k
-unfolding together
+    → count_at (joined_layers light heavy) k ≡ count_at light k
+unfolding joined_layers
 count_light n light [] k c d none = refl
 count_light n light (h ∷ hs) k c d none =
     let other : rank_of h.pair ≡ k → ⊥ = λ e. omega (arith, count_head h hs k e, none, d.1) in
@@ -40,8 +40,8 @@ count_light n light (h ∷ hs) k c d none =
 
 -- and a heavy pair has the count that it has among the heavy ones
 pub count_heavy : (n : ℕ) (light heavy : Collection) (k : ℕ) → IsCollection light → IsCollectionFrom n heavy → 0 < count_at heavy k
-    → count_at (together light heavy) k ≡ count_at heavy k
-unfolding together
+    → count_at (joined_layers light heavy) k ≡ count_at heavy k
+unfolding joined_layers
 count_heavy n light [] k c d some = absurd (omega arith)
 count_heavy n light (h ∷ hs) k c d some =
     let more : Collection = set_count h.pair h.count light in
@@ -55,10 +55,10 @@ count_heavy n light (h ∷ hs) k c d some =
     ]
 
 -- the counts of a pair in both together are the same if they are in each
-pub same_together : (light heavy other_light other_heavy : Collection) (k : ℕ) → IsCollection light → IsCollection heavy
+pub same_joined_layers : (light heavy other_light other_heavy : Collection) (k : ℕ) → IsCollection light → IsCollection heavy
     → IsCollection other_light → IsCollection other_heavy → count_at light k ≡ count_at other_light k
-    → count_at heavy k ≡ count_at other_heavy k → count_at (together light heavy) k ≡ count_at (together other_light other_heavy) k
-same_together light heavy other_light other_heavy k c d e f one other =
+    → count_at heavy k ≡ count_at other_heavy k → count_at (joined_layers light heavy) k ≡ count_at (joined_layers other_light other_heavy) k
+same_joined_layers light heavy other_light other_heavy k c d e f one other =
     elim (cases_eq (count_at heavy k) 0) [
       | inl none ↦
           count_light 0 light heavy k c d none ∙ one ∙ sym (count_light 0 other_light other_heavy k e f (sym other ∙ none))
@@ -69,7 +69,7 @@ same_together light heavy other_light other_heavy k c d e f one other =
 
 -- the count of a pair that isn't in both layers is the sum of its counts
 pub count_sum : (light heavy : Collection) (k : ℕ) → IsCollection light → IsCollection heavy
-    → (0 < count_at heavy k → count_at light k ≡ 0) → count_at (together light heavy) k ≡ count_at light k + count_at heavy k
+    → (0 < count_at heavy k → count_at light k ≡ 0) → count_at (joined_layers light heavy) k ≡ count_at light k + count_at heavy k
 count_sum light heavy k c d apart =
     elim (cases_eq (count_at heavy k) 0) [
       | inl none ↦ omega (arith, count_light 0 light heavy k c d none, none)
@@ -78,14 +78,14 @@ count_sum light heavy k c d apart =
     ]
 
 -- light pairs without heavy ones are themselves
-pub together_light : (light : Collection) → together light [] ≡ light
-unfolding together
-together_light light = refl
+pub joined_layers_none : (light : Collection) → joined_layers light [] ≡ light
+unfolding joined_layers
+joined_layers_none light = refl
 
 -- and so are heavy pairs without light ones
-pub together_heavy : (heavy : Collection) → IsCollection heavy → together [] heavy ≡ heavy
-together_heavy heavy c =
-    same_collection (together [] heavy) heavy (together_rises [] heavy tt) c (λ p.
+pub joined_layers_heavy : (heavy : Collection) → IsCollection heavy → joined_layers [] heavy ≡ heavy
+joined_layers_heavy heavy c =
+    same_collection (joined_layers [] heavy) heavy (joined_layers_rise [] heavy tt) c (λ p.
     omega (arith, count_sum [] heavy (rank_of p) tt c (λ some. refl)))
 
 -- ---- how many they are
@@ -111,8 +111,8 @@ length_new m p n (h ∷ hs) c none some =
     ]
 
 length_from : (n : ℕ) (light heavy : Collection) → IsCollection light → IsCollectionFrom n heavy
-    → ((k : ℕ) → 0 < count_at heavy k → count_at light k ≡ 0) → length (together light heavy) ≡ length light + length heavy
-unfolding together
+    → ((k : ℕ) → 0 < count_at heavy k → count_at light k ≡ 0) → length (joined_layers light heavy) ≡ length light + length heavy
+unfolding joined_layers
 length_from n light [] c d apart = omega arith
 length_from n light (h ∷ hs) c d apart =
     let own = rank_of h.pair in
@@ -145,12 +145,12 @@ held_at_rank (h ∷ hs) k some =
     ]
 
 -- a pair of both together is of one
-pub in_together : (light heavy : Collection) (x : Held) → IsCollection light → IsCollection heavy → Contains (together light heavy) x
+pub in_joined_layers : (light heavy : Collection) (x : Held) → IsCollection light → IsCollection heavy → Contains (joined_layers light heavy) x
     → Contains light x ⊎ Contains heavy x
-in_together light heavy x c d held =
-    let all = together_rises light heavy c in
-    let some = count_some 0 (together light heavy) x all held in
-    let is = held_count (together light heavy) x all held in
+in_joined_layers light heavy x c d held =
+    let all = joined_layers_rise light heavy c in
+    let some = count_some 0 (joined_layers light heavy) x all held in
+    let is = held_count (joined_layers light heavy) x all held in
     elim (cases_eq (count_in heavy x.pair) 0) [
       | inl none ↦ inl (held_by_count light x some (sym (count_light 0 light heavy (rank_of x.pair) c d none) ∙ is))
       | inr more ↦
@@ -158,12 +158,12 @@ in_together light heavy x c d held =
     ]
 
 -- a heavy pair is one of both together
-pub heavy_in_together : (light heavy : Collection) (x : Held) → IsCollection light → IsCollection heavy → Contains heavy x
-    → Contains (together light heavy) x
-heavy_in_together light heavy x c d held =
+pub heavy_in_joined_layers : (light heavy : Collection) (x : Held) → IsCollection light → IsCollection heavy → Contains heavy x
+    → Contains (joined_layers light heavy) x
+heavy_in_joined_layers light heavy x c d held =
     let some = count_some 0 heavy x d held in
     let is = held_count heavy x d held in
-    held_by_count (together light heavy) x some (count_heavy 0 light heavy (rank_of x.pair) c d (omega arith) ∙ is)
+    held_by_count (joined_layers light heavy) x some (count_heavy 0 light heavy (rank_of x.pair) c d (omega arith) ∙ is)
 
 -- a light pair isn't heavy
 pub light_not_heavy : (light heavy : Collection) (x : Held) → ShareNoPair light heavy → Contains light x → count_in heavy x.pair ≡ 0
@@ -187,18 +187,18 @@ none_at light heavy k c apart some =
     ]
 
 -- the count of a pair in layers that share none is the sum of its counts
-pub count_together : (light heavy : Collection) (p : Pair) → IsCollection light → IsCollection heavy → ShareNoPair light heavy
-    → count_in (together light heavy) p ≡ count_in light p + count_in heavy p
-count_together light heavy p c d apart = count_sum light heavy (rank_of p) c d (none_at light heavy (rank_of p) c apart)
+pub count_joined_layers : (light heavy : Collection) (p : Pair) → IsCollection light → IsCollection heavy → ShareNoPair light heavy
+    → count_in (joined_layers light heavy) p ≡ count_in light p + count_in heavy p
+count_joined_layers light heavy p c d apart = count_sum light heavy (rank_of p) c d (none_at light heavy (rank_of p) c apart)
 
 -- layers that share no pair hold as many as both
-pub length_together : (light heavy : Collection) → IsCollection light → IsCollection heavy → ShareNoPair light heavy
-    → length (together light heavy) ≡ length light + length heavy
-length_together light heavy c d apart = length_from 0 light heavy c d (λ k some. none_at light heavy k c apart some)
+pub length_joined_layers : (light heavy : Collection) → IsCollection light → IsCollection heavy → ShareNoPair light heavy
+    → length (joined_layers light heavy) ≡ length light + length heavy
+length_joined_layers light heavy c d apart = length_from 0 light heavy c d (λ k some. none_at light heavy k c apart some)
 
 -- a light pair is one of both together
-pub light_in_together : (light heavy : Collection) (x : Held) → IsCollection light → IsCollection heavy → ShareNoPair light heavy
-    → Contains light x → Contains (together light heavy) x
-light_in_together light heavy x c d apart held =
-    held_by_count (together light heavy) x (count_some 0 light x c held)
+pub light_in_joined_layers : (light heavy : Collection) (x : Held) → IsCollection light → IsCollection heavy → ShareNoPair light heavy
+    → Contains light x → Contains (joined_layers light heavy) x
+light_in_joined_layers light heavy x c d apart held =
+    held_by_count (joined_layers light heavy) x (count_some 0 light x c held)
     (count_light 0 light heavy (rank_of x.pair) c d (light_not_heavy light heavy x apart held) ∙ held_count light x c held)

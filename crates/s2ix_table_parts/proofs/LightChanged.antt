@@ -24,14 +24,14 @@ use Rattle.s2ix_table_heavy.specs.declared.heavy_place.HeavyPlace.{HeavyPlace}
 use Rattle.s2ix_table_parts.specs.FaceSpans.{face_begin, no_table}
 use Rattle.s2ix_table_parts.specs.Neighbours.{AreNeighbours, held_in}
 use Rattle.s2ix_table_parts.specs.Layered.{AreLightParts, HaveLightCells, IsFaceLayered, IsFaceWith}
-use Rattle.s2ix_table_parts.specs.Layers.{ShareNoCell, together}
+use Rattle.s2ix_table_parts.specs.Layers.{ShareNoCell, joined_layers}
 use Rattle.s2ix_table_parts.specs.Parts.{EntriesBeginFrom, EntriesEndBy, AreTouched, with_parts}
 use Rattle.s2ix_table_parts.proofs.Appended.{below_cut, from_cut}
-use Rattle.s2ix_table_parts.proofs.Cuts.{between, back, cut, cut_end, cut_is, front, neighbours_append}
+use Rattle.s2ix_table_parts.proofs.Cuts.{all_end, between, back, cut, cut_end, cut_is, front, neighbours_rise}
 use Rattle.s2ix_table_heavy.proofs.ChangedCells.{changed_cells}
-use Rattle.s2ix_table_parts.proofs.Cutting.{all_end, entries_below, entries_from, held_append, held_split, some_span}
-use Rattle.s2ix_table_parts.proofs.FaceWith.{length_overs, overs_append, overs_dropped, overs_taken}
-use Rattle.s2ix_table_parts.proofs.Layers.{cells_part_pairs, length_together}
+use Rattle.s2ix_table_parts.proofs.Cutting.{entries_below, entries_from, held_append, held_split, neighbours_append, some_span}
+use Rattle.s2ix_table_parts.proofs.FaceWith.{length_heavy_places, heavy_places_append, heavy_places_dropped, heavy_places_taken}
+use Rattle.s2ix_table_parts.proofs.Layers.{cells_part_pairs, length_joined_layers}
 use Rattle.s2ix_table_parts.proofs.Neighbours.{all_begin, all_rise}
 
 -- ---- the light layer changes alone
@@ -64,16 +64,16 @@ set_either p q n m hs c other =
 -- the count of a pair that isn't heavy is set in the light layer
 set_light : (p : Pair) (n : ℕ) (light heavy : Collection) → IsCollection light
     → ((h : Held) → Contains heavy h → rank_of p ≡ rank_of h.pair → ⊥)
-    → set_count p n (together light heavy) ≡ together (set_count p n light) heavy
-unfolding together
+    → set_count p n (joined_layers light heavy) ≡ joined_layers (set_count p n light) heavy
+unfolding joined_layers
 set_light p n light [] c other = refl
 set_light p n light (h ∷ hs) c other =
     set_light p n (set_count h.pair h.count light) hs (set_keeps h.pair h.count light c) (λ x is. other x (in_tail h hs x is))
-    ∙ ap (λ ls. together ls hs) (set_either p h.pair n h.count light c (other h (at_head h hs)))
+    ∙ ap (λ ls. joined_layers ls hs) (set_either p h.pair n h.count light c (other h (at_head h hs)))
 
 -- a change of light cells changes the light layer alone
 pub light_layer : (light heavy : Collection) (es : List Entry) → IsCollection light → HaveLightCells es heavy
-    → changed (together light heavy) es ≡ together (changed light es) heavy
+    → changed (joined_layers light heavy) es ≡ joined_layers (changed light es) heavy
 light_layer light heavy [] c are = refl
 light_layer light heavy (e ∷ es) c are =
     let own : (h : Held) → Contains heavy h → rank_of e.pair ≡ rank_of h.pair → ⊥ =
@@ -138,7 +138,7 @@ touched_changed start ts stop first count from to es are begin end rise =
     sym (held_split count (drop first ts)) ∙ ap (λ xs. own ++ held_in xs) (drop-drop count first ts) in
     ap (λ hs. changed hs es) (sym (held_split first ts) ∙ ap (λ hs. before ++ hs) rest)
     ∙ changed_between (from * 2147483648) (to * 2147483648) before own after es
-    (below_cut from before (all_end start (take first ts) from are.front).1)
+    (below_cut from before (all_end start (take first ts) from are.front))
     (from_cut to after (all_rise to (drop (first + count) ts) stop are.back) (all_begin to (drop (first + count) ts) stop are.back))
     (entries_from from 0 es rise begin) (entries_below to es end)
 
@@ -150,11 +150,11 @@ pub record AreTouchedPairs (before after : Collection) (from to : ℕ) : Type 0 
   pub span : IsInSpan after from to
   pub leaves : to ≤ leaf_end
 
-touched_few : (before own after light heavy all : Collection) → light ≡ before ++ (own ++ after) → all ≡ together light heavy
+touched_few : (before own after light heavy all : Collection) → light ≡ before ++ (own ++ after) → all ≡ joined_layers light heavy
     → IsCollection light → IsCollection heavy → ShareNoCell light heavy → length all ≤ 1000000 → length own ≤ 1000000
 touched_few before own after light heavy all split both c d apart within_limit =
     let whole = ap (λ (hs : Collection). length hs) both in
-    let sum = length_together light heavy c d (cells_part_pairs light heavy apart) in
+    let sum = length_joined_layers light heavy c d (cells_part_pairs light heavy apart) in
     let parts = ap (λ (hs : Collection). length hs) split in
     let one = length-append before (own ++ after) in
     let two = length-append own after in
@@ -166,25 +166,25 @@ some_parts first end ts lt le =
     let taken = length-take-le (end - first) (drop first ts) (omega arith) in
     omega arith
 
-pub touched_pairs : (face : ℕ) (ts : List SpanRanges) (overs : List (Option HeavyPlace)) (heavy : List Collection) (es : List Entry)
-    (first end from to : ℕ) (before : Collection) → face < 6 → IsFaceLayered face heavy ts overs
+pub touched_pairs : (face : ℕ) (ts : List SpanRanges) (heavy_places : List (Option HeavyPlace)) (heavy : List Collection) (es : List Entry)
+    (first end from to : ℕ) (before : Collection) → face < 6 → IsFaceLayered face heavy ts heavy_places
     → AreTouched ts es (face_begin (face + 1)) first end from to → IsChangeList es → HaveLightCells es (all_of heavy)
-    → length (changed (together (held_in ts) (all_of heavy)) es) ≤ 1000000 → before ≡ held_in (take (end - first) (drop first ts))
+    → length (changed (joined_layers (held_in ts) (all_of heavy)) es) ≤ 1000000 → before ≡ held_in (take (end - first) (drop first ts))
     → AreTouchedPairs before (changed before es) from to
-touched_pairs face ts overs heavy es first end from to before six was is rise light within_limit same =
+touched_pairs face ts heavy_places heavy es first end from to before six was is rise light within_limit same =
     let start = face_begin face in
     let stop = face_begin (face + 1) in
     let n = end - first in
     let own = take n (drop first ts) in
     let parts = around start ts stop es first end from to was.neighbours is in
-    let by = (all_end to (drop (first + n) ts) stop parts.back).0 in
+    let by = neighbours_rise to (drop (first + n) ts) stop parts.back in
     let c = all_rise start ts stop was.neighbours in
     let span = some_span from own to parts.mid (some_parts first end ts is.some is.within) in
     subst (λ hs. AreTouchedPairs hs (changed hs es) from to) (sym same) (record {
       rises = all_rise from own to parts.mid;
       rises_then = changed_keeps (held_in own) es (all_rise from own to parts.mid) rise;
       within_limit = touched_few (held_in (take first ts)) (changed (held_in own) es) (held_in (drop (first + n) ts)) (changed (held_in ts) es)
-          (all_of heavy) (changed (together (held_in ts) (all_of heavy)) es)
+          (all_of heavy) (changed (joined_layers (held_in ts) (all_of heavy)) es)
           (touched_changed start ts stop first n from to es parts is.entries_begin is.entries_end rise)
           (light_layer (held_in ts) (all_of heavy) es c light) (changed_keeps (held_in ts) es c rise) was.are_chunks.rises
           (still_apart (held_in ts) (all_of heavy) es was.apart light) within_limit;
@@ -193,19 +193,19 @@ touched_pairs face ts overs heavy es first end from to before six was is rise li
         odd_end = span.1;
         some = span.2;
         begins = changed_cells (λ (c : CellId). from ≤ first_of c) (held_in own) es (all_begin from own to parts.mid) is.entries_begin;
-        ends = changed_cells (λ (c : CellId). end_of c ≤ to) (held_in own) es (all_end from own to parts.mid).1 is.entries_end;
+        ends = changed_cells (λ (c : CellId). end_of c ≤ to) (held_in own) es (all_end from own to parts.mid) is.entries_end;
       };
       leaves = omega arith;
     })
 
 -- ---- the face then
 
-pub light_with_touched : (face : ℕ) (ts made : List SpanRanges) (overs made_overs : List (Option HeavyPlace)) (heavy now : List Collection)
-    (es : List Entry) (first end from to : ℕ) → IsFaceLayered face heavy ts overs
+pub light_with_touched : (face : ℕ) (ts made : List SpanRanges) (heavy_places made_heavy_places : List (Option HeavyPlace)) (heavy now : List Collection)
+    (es : List Entry) (first end from to : ℕ) → IsFaceLayered face heavy ts heavy_places
     → AreTouched ts es (face_begin (face + 1)) first end from to → IsChangeList es → HaveLightCells es (all_of heavy) → now ≡ heavy
-    → AreLightParts heavy (changed (held_in (take (end - first) (drop first ts))) es) from made made_overs to
-    → IsFaceWith face (changed (together (held_in ts) (all_of heavy)) es) ts overs first end made made_overs now
-light_with_touched face ts made overs made_overs heavy now es first end from to was is rise light same are =
+    → AreLightParts heavy (changed (held_in (take (end - first) (drop first ts))) es) from made made_heavy_places to
+    → IsFaceWith face (changed (joined_layers (held_in ts) (all_of heavy)) es) ts heavy_places first end made made_heavy_places now
+light_with_touched face ts made heavy_places made_heavy_places heavy now es first end from to was is rise light same are =
     let start = face_begin face in
     let stop = face_begin (face + 1) in
     let n = end - first in
@@ -220,19 +220,19 @@ light_with_touched face ts made overs made_overs heavy now es first end from to 
     (held_append made (drop end ts) ∙ ap₂ (λ (hs ks : Collection). hs ++ ks) are.pairs (ap (λ k. held_in (drop k ts)) (sym sum)))
     ∙ sym (touched_changed start ts stop first n from to es parts is.entries_begin is.entries_end rise) in
     let c = all_rise start ts stop was.neighbours in
-    subst (λ hs. IsFaceWith face (changed (together (held_in ts) (all_of heavy)) es) ts overs first end made made_overs hs) (sym same) (record {
+    subst (λ hs. IsFaceWith face (changed (joined_layers (held_in ts) (all_of heavy)) es) ts heavy_places first end made made_heavy_places hs) (sym same) (record {
       order = omega arith;
       within = is.within;
-      many = length_overs heavy made made_overs are.overs_are;
+      same_length = length_heavy_places heavy made made_heavy_places are.are_heavy_places;
       layered = record {
-        neighbours = neighbours_append start from stop (take first ts) (made ++ drop end ts) parts.front
-            (neighbours_append from to stop made (drop end ts) are.neighbours back);
+        neighbours = neighbours_append start (take first ts) from (made ++ drop end ts) stop parts.front
+            (neighbours_append from made to (drop end ts) stop are.neighbours back);
         are_chunks = was.are_chunks;
         on_face = was.on_face;
         apart = subst (λ hs. ShareNoCell hs (all_of heavy)) (sym pairs) (still_apart (held_in ts) (all_of heavy) es was.apart light);
-        overs_are = overs_append heavy (take first ts) (made ++ drop end ts) (take first overs) (made_overs ++ drop end overs)
-            (overs_taken first heavy ts overs was.overs_are)
-            (overs_append heavy made (drop end ts) made_overs (drop end overs) are.overs_are (overs_dropped end heavy ts overs was.overs_are));
+        are_heavy_places = heavy_places_append heavy (take first ts) (made ++ drop end ts) (take first heavy_places) (made_heavy_places ++ drop end heavy_places)
+            (heavy_places_taken first heavy ts heavy_places was.are_heavy_places)
+            (heavy_places_append heavy made (drop end ts) made_heavy_places (drop end heavy_places) are.are_heavy_places (heavy_places_dropped end heavy ts heavy_places was.are_heavy_places));
       };
-      pairs = ap (λ hs. together hs (all_of heavy)) pairs ∙ sym (light_layer (held_in ts) (all_of heavy) es c light);
+      pairs = ap (λ hs. joined_layers hs (all_of heavy)) pairs ∙ sym (light_layer (held_in ts) (all_of heavy) es c light);
     })

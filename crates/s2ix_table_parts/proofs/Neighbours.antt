@@ -5,9 +5,10 @@ use Rattle.s2id_core.proofs.Lists.{none_in_nil}
 use Rattle.s2ix_bag_pairs.specs.Collection.{IsCollection}
 use Rattle.s2ix_table_spans.specs.SpanTable.{SpanRanges, IsSpanTable}
 use Rattle.s2ix_table_parts.specs.Neighbours.{held_in, AreNeighbours}
-use Rattle.s2ix_table_parts.proofs.Appended.{BeginFrom, both_rise}
+use Rattle.s2ix_table_parts.specs.Parts.{BeginsFrom}
+use Rattle.s2ix_table_parts.proofs.Appended.{both_rise}
 
-pub all_begin : (from : ℕ) (tables : List SpanRanges) (to : ℕ) → AreNeighbours from tables to → BeginFrom (held_in tables) from
+pub all_begin : (from : ℕ) (tables : List SpanRanges) (to : ℕ) → AreNeighbours from tables to → BeginsFrom (held_in tables) from
 all_begin from [] to are h held = absurd (none_in_nil h held)
 all_begin from (t ∷ ts) to are h held =
     let e = are.0 in

@@ -11,8 +11,7 @@ use Rattle.s2ix_table_heavy.specs.HeavyChains.{heavy_chain}
 use Rattle.s2ix_table_heavy.specs.declared.heavy_place.HeavyPlace.{HeavyPlace}
 use Rattle.s2ix_table_parts.specs.FaceSpans.{face_begin}
 use Rattle.s2ix_table_parts.specs.Neighbours.{AreNeighbours}
-use Rattle.s2ix_table_parts.specs.Layered.{AreOvers, IsFaceLayered, IsUnder}
-use Rattle.s2ix_table_parts.specs.Layers.{together}
+use Rattle.s2ix_table_parts.specs.Layered.{AreHeavyPlaces, IsFaceLayered, IsUnder}
 
 nothing_over : (q : ℕ) → contents_at q [] ≡ []
 unfolding contents_at choice
@@ -25,7 +24,7 @@ pub leads_to_none : (chain : HeavyPlace → Collection) (q : ℕ) (chunks : List
     → LeadsTo chain None (contents_at q (all_of chunks))
 leads_to_none chain q chunks none = record { pairs_are = sym (none_over q chunks none); place = λ p is. search rules }
 
-no_chain : (place : HeavyPlace) → heavy_chain [] place ≡ []
+pub no_chain : (place : HeavyPlace) → heavy_chain [] place ≡ []
 unfolding heavy_chain choice
 no_chain place = refl
 
@@ -40,15 +39,15 @@ under_none from to = record {
   leads = leads_to_none (heavy_chain []) from [] refl;
 }
 
-pub overs_none : (ts : List SpanRanges) → AreOvers [] ts (replicate (length ts) None)
-overs_none [] = refl
-overs_none (t ∷ ts) = (under_none t.from t.to, overs_none ts)
+pub heavy_places_none : (ts : List SpanRanges) → AreHeavyPlaces [] ts (replicate (length ts) None)
+heavy_places_none [] = refl
+heavy_places_none (t ∷ ts) = (under_none t.from t.to, heavy_places_none ts)
 
 -- parts alone are a face in two layers
-pub all_light : (face : ℕ) (ts us : List SpanRanges) (heavy : List Collection) (overs : List (Option HeavyPlace))
-    → AreNeighbours (face_begin face) ts (face_begin (face + 1)) → us ≡ ts → heavy ≡ [] → overs ≡ replicate (length ts) None
-    → IsFaceLayered face heavy us overs
-all_light face ts us heavy overs are same none all =
+pub all_light : (face : ℕ) (ts us : List SpanRanges) (heavy : List Collection) (heavy_places : List (Option HeavyPlace))
+    → AreNeighbours (face_begin face) ts (face_begin (face + 1)) → us ≡ ts → heavy ≡ [] → heavy_places ≡ replicate (length ts) None
+    → IsFaceLayered face heavy us heavy_places
+all_light face ts us heavy heavy_places are same none all =
     subst (λ (xs : List (Option HeavyPlace)). IsFaceLayered face heavy us xs) (sym all)
     (subst₂ (λ (vs : List SpanRanges) (cs : List Collection). IsFaceLayered face cs vs (replicate (length ts) None)) (sym same) (sym none)
     (record {
@@ -56,9 +55,5 @@ all_light face ts us heavy overs are same none all =
       are_chunks = record { rises = tt; within_limit = omega arith; filled = tt; one_cell = λ chunk is. absurd (none_in_nil chunk is) };
       on_face = λ h is. absurd (none_in_nil h is);
       apart = λ l h light is. absurd (none_in_nil h is);
-      overs_are = overs_none ts;
+      are_heavy_places = heavy_places_none ts;
     }))
-
-pub together_none : (held : Collection) → together held [] ≡ held
-unfolding together
-together_none held = refl

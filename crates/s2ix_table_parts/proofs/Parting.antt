@@ -7,9 +7,8 @@ use Rattle.s2id_core.specs.CellId.{raw_of}
 use Rattle.s2id_core.proofs.Lists.{none_in_nil, at_head}
 use Rattle.s2id_core.proofs.Nested.{span}
 use Rattle.s2ix_bag_lists.specs.Faces.{all_of}
+use Rattle.s2ix_bag_lists.proofs.Joins.{back_rises, front_rises}
 use Rattle.s2ix_bag_pairs.specs.Collection.{Collection, IsCollection, IsCollectionFrom}
-use Rattle.s2ix_bag_pairs.specs.Pair.{rank_of}
-use Rattle.s2ix_bag_pairs.proofs.Counts.{from_lower}
 use Rattle.s2ix_table_spans.specs.SpanTable.{SpanRanges, IsInSpan, IsSpanTable}
 use Rattle.s2ix_table_parts.specs.Neighbours.{held_in, AreNeighbours}
 use Rattle.s2ix_table_parts.specs.Parts.{EndsBy, BeginsFrom, IsSeam, AreSeams}
@@ -27,16 +26,6 @@ one_more k ls d within =
     ap own (take_more ls k d within)
     ∙ flat_map-append (λ (hs : Collection). hs) (take k ls) (get_or ls k d ∷ [])
     ∙ ap (λ hs. all_of (take k ls) ++ hs) (append-nil (get_or ls k d))
-
-pub front_rises : (n : ℕ) (hs ks : Collection) → IsCollectionFrom n (hs ++ ks) → IsCollectionFrom n hs
-front_rises n [] ks rise = tt
-front_rises n (h ∷ hs) ks rise = (rise.0, rise.1, front_rises (rank_of h.pair + 1) hs ks rise.2)
-
-pub back_rises : (n : ℕ) (hs ks : Collection) → IsCollectionFrom n (hs ++ ks) → IsCollectionFrom n ks
-back_rises n [] ks rise = rise
-back_rises n (h ∷ hs) ks rise =
-    let le = rise.0 in
-    from_lower n (rank_of h.pair + 1) ks (omega arith) (back_rises (rank_of h.pair + 1) hs ks rise.2)
 
 -- ---- where cells begin and end
 

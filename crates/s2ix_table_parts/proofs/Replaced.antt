@@ -1,6 +1,7 @@
 -- Elements that give way to others in a list.
 use Rattle.std.proofs.Common.{◌≡◌, ℕ, ◌+◌, ◌-◌, ◌≤◌, List, ◌++◌, length, map, take, drop, sym, ◌∙◌, ap, ap₂, arith}
-use Rattle.std.proofs.lemmas.List.{append_assoc, take-append-drop, take_at, drop_at, drop-drop, length-append, length-drop, length-take-le, map-append, take-map, drop-map}
+use Rattle.std.proofs.lemmas.List.{append_assoc, take_at, drop_at, length-append, length-drop, length-take-le, map-append, take-map, drop-map}
+use Rattle.s2ix_table_spans.proofs.Spliced.{three_parts}
 
 -- the first elements behind a place come behind the others
 turned : {A : Type 0} (front first rest ws out : List A) (f n : ℕ) → ws ≡ front ++ (first ++ rest) → length front ≡ f → length first ≡ n
@@ -23,15 +24,6 @@ length_turned ws out f n le put =
     let other = length-drop n (drop f ws) in
     omega arith
 
--- a list, in three stretches
-stretches : {A : Type 0} (xs : List A) (f e : ℕ) → f ≤ e → xs ≡ take f xs ++ (take (e - f) (drop f xs) ++ drop e xs)
-stretches xs f e order =
-    let sum : f + (e - f) ≡ e = omega arith in
-    sym (take-append-drop f xs)
-    ∙ ap (λ ys. take f xs ++ ys)
-    (sym (take-append-drop (e - f) (drop f xs))
-    ∙ ap (λ ys. take (e - f) (drop f xs) ++ ys) (drop-drop (e - f) f xs ∙ ap (λ n. drop n xs) sum))
-
 -- new elements are put behind all, the old ones turned behind them and cut off, and the new ones turned to their place
 pub replaced : {A : Type 0} (xs ys more turned_out cut out : List A) (f e m n : ℕ) → f ≤ e → e ≤ length xs → more ≡ xs ++ ys
     → turned_out ≡ take f more ++ (drop (e - f) (drop f more) ++ take (e - f) (drop f more)) → cut ≡ take m turned_out
@@ -46,7 +38,7 @@ replaced xs ys more turned_out cut out f e m n order within put turn is_cut m_is
     let len_old : length old ≡ e - f = length-take-le (e - f) (drop f xs) (omega arith) in
     let len_back = length-drop e xs in
     let here : more ≡ front ++ (old ++ (back ++ ys)) =
-    put ∙ ap (λ zs. zs ++ ys) (stretches xs f e order) ∙ append_assoc front (old ++ back) ys ∙ ap (λ zs. front ++ zs) (append_assoc old back ys) in
+    put ∙ ap (λ zs. zs ++ ys) (three_parts xs f e order) ∙ append_assoc front (old ++ back) ys ∙ ap (λ zs. front ++ zs) (append_assoc old back ys) in
     let there = turned front old (back ++ ys) more turned_out f (e - f) here len_front len_old turn in
     let len_both = length-append back ys in
     let len_kept = length-append front (back ++ ys) in

@@ -12,9 +12,9 @@ use Rattle.s2ix_bag_pairs.specs.declared.pair.Held.{Held}
 use Rattle.s2ix_bag_pairs.specs.declared.pair.Entry.{Entry}
 use Rattle.s2ix_bag_pairs.proofs.Counts.{set_after}
 use Rattle.s2ix_table_heavy.specs.Chunks.{AreChunks}
-use Rattle.s2ix_table_parts.specs.Layers.{together}
+use Rattle.s2ix_table_parts.specs.Layers.{joined_layers}
 use Rattle.s2ix_table_parts.specs.Split.{AreSplit, HaveLesserCells, IsRunAfter}
-use Rattle.s2ix_table_parts.proofs.Layers.{cells_part_pairs, heavy_in_together, length_together, light_in_together}
+use Rattle.s2ix_table_parts.proofs.Layers.{cells_part_pairs, heavy_in_joined_layers, length_joined_layers, light_in_joined_layers}
 
 -- ---- below a rank
 
@@ -35,13 +35,13 @@ abbrev as_entry : Held → Entry
 as_entry h = record { pair = h.pair; before = 0; after = h.count }
 
 -- behind the light ones
-together_light : (n : ℕ) (light heavy run : Collection) → AreBelow n heavy → IsCollectionFrom n run
-    → together (light ++ run) heavy ≡ together light heavy ++ run
-unfolding together
-together_light n light [] run below from = refl
-together_light n light (h ∷ hs) run below from =
-    ap (λ (ks : Collection). together ks hs) (changed_back n light run (as_entry h ∷ []) (below.0, tt) from)
-    ∙ together_light n (set_count h.pair h.count light) hs run below.1 from
+joined_layers_light : (n : ℕ) (light heavy run : Collection) → AreBelow n heavy → IsCollectionFrom n run
+    → joined_layers (light ++ run) heavy ≡ joined_layers light heavy ++ run
+unfolding joined_layers
+joined_layers_light n light [] run below from = refl
+joined_layers_light n light (h ∷ hs) run below from =
+    ap (λ (ks : Collection). joined_layers ks hs) (changed_back n light run (as_entry h ∷ []) (below.0, tt) from)
+    ∙ joined_layers_light n (set_count h.pair h.count light) hs run below.1 from
 
 held_some : (p : Pair) (c : ℕ) → 0 < c → held_with p c [] ≡ record { pair = p; count = c } ∷ []
 held_some p zero some = absurd (omega arith)
@@ -52,38 +52,38 @@ set_last h [] some below = held_some h.pair h.count some
 set_last h (k ∷ ks) some below =
     set_after h.pair h.count k ks below.0 ∙ ap (λ (xs : Collection). k ∷ xs) (set_last h ks some below.1)
 
-lists_together : (n : ℕ) (light run : Collection) → AreBelow n light → IsCollectionFrom n run → together light run ≡ light ++ run
-unfolding together
-lists_together n light [] below from = sym (append-nil light)
-lists_together n light (h ∷ hs) below from =
-    ap (λ (ks : Collection). together ks hs) (set_last h light from.1 (below_more n (rank_of h.pair) light from.0 below))
-    ∙ lists_together (rank_of h.pair + 1) (light ++ h ∷ []) hs
+lists_joined_layers : (n : ℕ) (light run : Collection) → AreBelow n light → IsCollectionFrom n run → joined_layers light run ≡ light ++ run
+unfolding joined_layers
+lists_joined_layers n light [] below from = sym (append-nil light)
+lists_joined_layers n light (h ∷ hs) below from =
+    ap (λ (ks : Collection). joined_layers ks hs) (set_last h light from.1 (below_more n (rank_of h.pair) light from.0 below))
+    ∙ lists_joined_layers (rank_of h.pair + 1) (light ++ h ∷ []) hs
     (below_append (rank_of h.pair + 1) light (h ∷ []) (below_more n (rank_of h.pair + 1) light (omega (arith, from.0)) below) (omega arith, tt))
     from.2
     ∙ append_assoc light (h ∷ []) hs
 
 -- behind the heavy ones
-together_heavy : (n : ℕ) (light heavy run : Collection) → AreBelow n light → AreBelow n heavy → IsCollectionFrom n run
-    → together light (heavy ++ run) ≡ together light heavy ++ run
-unfolding together
-together_heavy n light [] run light_below below from = lists_together n light run light_below from
-together_heavy n light (h ∷ hs) run light_below below from =
-    together_heavy n (set_count h.pair h.count light) hs run (changed_below n light (as_entry h ∷ []) (below.0, tt) light_below) below.1 from
+joined_layers_heavy : (n : ℕ) (light heavy run : Collection) → AreBelow n light → AreBelow n heavy → IsCollectionFrom n run
+    → joined_layers light (heavy ++ run) ≡ joined_layers light heavy ++ run
+unfolding joined_layers
+joined_layers_heavy n light [] run light_below below from = lists_joined_layers n light run light_below from
+joined_layers_heavy n light (h ∷ hs) run light_below below from =
+    joined_layers_heavy n (set_count h.pair h.count light) hs run (changed_below n light (as_entry h ∷ []) (below.0, tt) light_below) below.1 from
 
 -- ---- of all pairs
 
 -- a light pair is one of all
 pub in_light : (light : Collection) (chunks : List Collection) (held : Collection) → AreSplit light chunks
-    → together light (all_of chunks) ≡ held → (h : Held) → Contains light h → Contains held h
+    → joined_layers light (all_of chunks) ≡ held → (h : Held) → Contains light h → Contains held h
 in_light light chunks held s is h has =
     subst (λ (hs : Collection). Contains hs h) is
-    (light_in_together light (all_of chunks) h s.rises s.are_chunks.rises (cells_part_pairs light (all_of chunks) s.apart) has)
+    (light_in_joined_layers light (all_of chunks) h s.rises s.are_chunks.rises (cells_part_pairs light (all_of chunks) s.apart) has)
 
 -- and so is a heavy one
 pub in_heavy : (light : Collection) (chunks : List Collection) (held : Collection) → AreSplit light chunks
-    → together light (all_of chunks) ≡ held → (h : Held) → Contains (all_of chunks) h → Contains held h
+    → joined_layers light (all_of chunks) ≡ held → (h : Held) → Contains (all_of chunks) h → Contains held h
 in_heavy light chunks held s is h has =
-    subst (λ (hs : Collection). Contains hs h) is (heavy_in_together light (all_of chunks) h s.rises s.are_chunks.rises has)
+    subst (λ (hs : Collection). Contains hs h) is (heavy_in_joined_layers light (all_of chunks) h s.rises s.are_chunks.rises has)
 
 -- ---- the next run
 
@@ -93,12 +93,12 @@ record IsParting (n : ℕ) (light heavy run : Collection) : Type 0 where
   heavy_below : AreBelow n heavy
   run_from : IsCollectionFrom n run
 
-parted : (light run : Collection) (chunks : List Collection) → AreSplit light chunks → IsRunAfter (together light (all_of chunks)) run
+parted : (light run : Collection) (chunks : List Collection) → AreSplit light chunks → IsRunAfter (joined_layers light (all_of chunks)) run
     → (n : ℕ) × IsParting n light (all_of chunks) run
 parted light [] chunks s r = absurd (let some = r.some in omega arith)
 parted light (h ∷ hs) chunks s r =
     let heavy = all_of chunks in
-    let all = together light heavy in
+    let all = joined_layers light heavy in
     let below = front_below 0 all h hs r.rises in
     let from = back_rises 0 all (h ∷ hs) r.rises in (
       rank_of h.pair,
@@ -111,13 +111,13 @@ parted light (h ∷ hs) chunks s r =
 
 -- a run is put behind the light pairs
 pub put_light : (light run : Collection) (chunks : List Collection) → AreSplit light chunks
-    → IsRunAfter (together light (all_of chunks)) run
-    → AreSplit (light ++ run) chunks × (together (light ++ run) (all_of chunks) ≡ together light (all_of chunks) ++ run)
+    → IsRunAfter (joined_layers light (all_of chunks)) run
+    → AreSplit (light ++ run) chunks × (joined_layers (light ++ run) (all_of chunks) ≡ joined_layers light (all_of chunks) ++ run)
 put_light light run chunks s r =
     let heavy = all_of chunks in
-    let all = together light heavy in
+    let all = joined_layers light heavy in
     let cut = parted light run chunks s r in
-    let same = together_light cut.0 light heavy run cut.1.heavy_below cut.1.run_from in (
+    let same = joined_layers_light cut.0 light heavy run cut.1.heavy_below cut.1.run_from in (
       record {
         rises = from_append 0 cut.0 light run (omega arith) s.rises cut.1.light_below cut.1.run_from;
         are_chunks = s.are_chunks;
@@ -132,14 +132,14 @@ put_light light run chunks s r =
 
 -- a run in chunks is put behind the heavy pairs
 pub put_heavy : (light run : Collection) (chunks more : List Collection) → AreSplit light chunks
-    → IsRunAfter (together light (all_of chunks)) run → AreChunks more → all_of more ≡ all_of chunks ++ run
-    → AreSplit light more × (together light (all_of more) ≡ together light (all_of chunks) ++ run)
+    → IsRunAfter (joined_layers light (all_of chunks)) run → AreChunks more → all_of more ≡ all_of chunks ++ run
+    → AreSplit light more × (joined_layers light (all_of more) ≡ joined_layers light (all_of chunks) ++ run)
 put_heavy light run chunks more s r are is =
     let heavy = all_of chunks in
-    let all = together light heavy in
+    let all = joined_layers light heavy in
     let cut = parted light run chunks s r in
-    let same : together light (all_of more) ≡ all ++ run =
-    ap (together light) is ∙ together_heavy cut.0 light heavy run cut.1.light_below cut.1.heavy_below cut.1.run_from in (
+    let same : joined_layers light (all_of more) ≡ all ++ run =
+    ap (joined_layers light) is ∙ joined_layers_heavy cut.0 light heavy run cut.1.light_below cut.1.heavy_below cut.1.run_from in (
       record {
         rises = s.rises;
         are_chunks = are;
@@ -154,25 +154,25 @@ put_heavy light run chunks more s r are is =
 
 -- the heavy pairs rise with the run behind them
 pub heavy_rises : (light run : Collection) (chunks : List Collection) → AreSplit light chunks
-    → IsRunAfter (together light (all_of chunks)) run → IsCollection (all_of chunks ++ run)
+    → IsRunAfter (joined_layers light (all_of chunks)) run → IsCollection (all_of chunks ++ run)
 heavy_rises light run chunks s r =
     let cut = parted light run chunks s r in
     from_append 0 cut.0 (all_of chunks) run (omega arith) s.are_chunks.rises cut.1.heavy_below cut.1.run_from
 
 -- and are few with it
 pub heavy_few : (light run : Collection) (chunks : List Collection) → AreSplit light chunks
-    → IsRunAfter (together light (all_of chunks)) run → length (all_of chunks ++ run) ≤ 1000000
+    → IsRunAfter (joined_layers light (all_of chunks)) run → length (all_of chunks ++ run) ≤ 1000000
 heavy_few light run chunks s r =
     let heavy = all_of chunks in
-    let many = length_together light heavy s.rises s.are_chunks.rises (cells_part_pairs light heavy s.apart) in
+    let many = length_joined_layers light heavy s.rises s.are_chunks.rises (cells_part_pairs light heavy s.apart) in
     let within_limit = r.within_limit in
-    omega (arith, many, within_limit, length-append (together light heavy) run, length-append heavy run)
+    omega (arith, many, within_limit, length-append (joined_layers light heavy) run, length-append heavy run)
 
 -- ---- at the start
 
 none_split : (held : Collection)
-    → AreSplit [] [] × (together [] (all_of []) ++ held ≡ held) × HaveLesserCells (together [] (all_of [])) held
-unfolding together
+    → AreSplit [] [] × (joined_layers [] (all_of []) ++ held ≡ held) × HaveLesserCells (joined_layers [] (all_of [])) held
+unfolding joined_layers
 none_split held = (
   record {
     rises = tt;
@@ -184,8 +184,8 @@ none_split held = (
 )
 
 pub nothing_split : (light held : Collection) (chunks : List Collection) → light ≡ [] → chunks ≡ []
-    → AreSplit light chunks × (together light (all_of chunks) ++ held ≡ held) × HaveLesserCells (together light (all_of chunks)) held
+    → AreSplit light chunks × (joined_layers light (all_of chunks) ++ held ≡ held) × HaveLesserCells (joined_layers light (all_of chunks)) held
 nothing_split light held chunks no_light no_chunks =
     let Is : Collection → List Collection → Type 0 =
-    λ hs cs. AreSplit hs cs × (together hs (all_of cs) ++ held ≡ held) × HaveLesserCells (together hs (all_of cs)) held in
+    λ hs cs. AreSplit hs cs × (joined_layers hs (all_of cs) ++ held ≡ held) × HaveLesserCells (joined_layers hs (all_of cs)) held in
     subst (λ (hs : Collection). Is hs chunks) (sym no_light) (subst (λ (cs : List Collection). Is [] cs) (sym no_chunks) (none_split held))

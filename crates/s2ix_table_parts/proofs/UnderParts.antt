@@ -11,10 +11,10 @@ use Rattle.s2ix_table_heavy.specs.declared.heavy_place.HeavyPlace.{HeavyPlace}
 use Rattle.s2ix_table_walk.specs.Places.{LeadsTo}
 use Rattle.s2ix_table_parts.specs.FaceSpans.{no_table, table_of}
 use Rattle.s2ix_table_parts.specs.Neighbours.{AreNeighbours, held_in}
-use Rattle.s2ix_table_parts.specs.Layered.{AreLightParts, AreOvers, IsUnder}
-use Rattle.s2ix_table_parts.proofs.Cuts.{cut, cut_end, cut_is, cut_to, neighbours_append}
-use Rattle.s2ix_table_parts.proofs.Cutting.{all_end, held_append}
-use Rattle.s2ix_table_parts.proofs.FaceWith.{overs_append}
+use Rattle.s2ix_table_parts.specs.Layered.{AreLightParts, AreHeavyPlaces, IsUnder}
+use Rattle.s2ix_table_parts.proofs.Cuts.{cut, cut_end, cut_is, cut_to, neighbours_rise}
+use Rattle.s2ix_table_parts.proofs.Cutting.{held_append, neighbours_append}
+use Rattle.s2ix_table_parts.proofs.FaceWith.{heavy_places_append}
 use Rattle.s2ix_table_parts.proofs.Neighbours.{span_known}
 
 -- ---- a shorter span
@@ -39,19 +39,19 @@ under_back chunks from to start over is odd le lt =
 -- ---- part by part
 
 -- so many parts are laid under the heavy pairs, and what is known of the leaf at which the next one begins
-pub record Under (chunks : List Collection) (from : ℕ) (ts made : List SpanRanges) (overs : List (Option HeavyPlace)) (over : Option HeavyPlace) (until begin k : ℕ) : Type 0 where
-  pub laid : AreLightParts chunks (held_in (take k ts)) from made overs begin
+pub record Under (chunks : List Collection) (from : ℕ) (ts made : List SpanRanges) (heavy_places : List (Option HeavyPlace)) (over : Option HeavyPlace) (until begin k : ℕ) : Type 0 where
+  pub laid : AreLightParts chunks (held_in (take k ts)) from made heavy_places begin
   pub begins : begin ≡ cut k from ts
   pub known : begin < until → IsUnder chunks begin until over
 
-pub under_start : (chunks : List Collection) (from : ℕ) (ts made : List SpanRanges) (overs : List (Option HeavyPlace)) (over : Option HeavyPlace)
-    → made ≡ [] → overs ≡ [] → Under chunks from ts made overs over from from 0
-under_start chunks from ts made overs over none no_overs =
+pub under_start : (chunks : List Collection) (from : ℕ) (ts made : List SpanRanges) (heavy_places : List (Option HeavyPlace)) (over : Option HeavyPlace)
+    → made ≡ [] → heavy_places ≡ [] → Under chunks from ts made heavy_places over from from 0
+under_start chunks from ts made heavy_places over none no_heavy_places =
     record {
       laid = record {
         neighbours = subst (λ us. AreNeighbours from us from) (sym none) refl;
         pairs = ap held_in none;
-        overs_are = subst (λ us. AreOvers chunks us overs) (sym none) no_overs;
+        are_heavy_places = subst (λ us. AreHeavyPlaces chunks us heavy_places) (sym none) no_heavy_places;
       };
       begins = refl;
       known = λ lt. absurd (omega arith);
@@ -69,7 +69,7 @@ part_at k from [] to are leaves lt = absurd (omega arith)
 part_at zero from (t ∷ ts) to are leaves lt =
     let e = are.0 in
     let within = are.1.within in
-    let rest = (all_end t.to ts to are.2).0 in
+    let rest = neighbours_rise t.to ts to are.2 in
     record {
       odd = subst (λ n. n % 2 ≡ 1) e within.odd;
       some = let some = within.some in omega arith;
@@ -89,10 +89,10 @@ end_is k from end ts to are lt next last =
           last (omega arith) ∙ sym (cut_end (suc k) from ts to are all))
     ]
 
-pub part_is : (chunks : List Collection) (from : ℕ) (ts : List SpanRanges) (to : ℕ) (made : List SpanRanges) (overs : List (Option HeavyPlace))
-    (over : Option HeavyPlace) (until begin k end : ℕ) → Under chunks from ts made overs over until begin k → AreNeighbours from ts to
+pub part_is : (chunks : List Collection) (from : ℕ) (ts : List SpanRanges) (to : ℕ) (made : List SpanRanges) (heavy_places : List (Option HeavyPlace))
+    (over : Option HeavyPlace) (until begin k end : ℕ) → Under chunks from ts made heavy_places over until begin k → AreNeighbours from ts to
     → to ≤ leaf_end → k < length ts → end ≡ cut (suc k) from ts → IsPart begin end
-part_is chunks from ts to made overs over until begin k end was are leaves lt at =
+part_is chunks from ts to made heavy_places over until begin k end was are leaves lt at =
     subst (λ n. IsPart n end) (sym was.begins) (subst (λ n. IsPart (cut k from ts) n) (sym at) (part_at k from ts to are leaves lt))
 
 -- the pairs of a part lie within its span
@@ -117,7 +117,7 @@ one_laid chunks from ts to begin k end until over are lt begins ends is le =
     record {
       neighbours = (first, span_known from ts to k no_table are lt, last);
       pairs = append-nil t.held;
-      overs_are = (own, refl);
+      are_heavy_places = (own, refl);
     }
 
 -- parts behind others
@@ -126,9 +126,9 @@ laid_append : (chunks : List Collection) (light more : Collection) (from mid to 
     → AreLightParts chunks (light ++ more) from (ts ++ us) (xs ++ ys) to
 laid_append chunks light more from mid to ts us xs ys one other =
     record {
-      neighbours = neighbours_append from mid to ts us one.neighbours other.neighbours;
+      neighbours = neighbours_append from ts mid us to one.neighbours other.neighbours;
       pairs = held_append ts us ∙ ap₂ (λ (hs ks : Collection). hs ++ ks) one.pairs other.pairs;
-      overs_are = overs_append chunks ts us xs ys one.overs_are other.overs_are;
+      are_heavy_places = heavy_places_append chunks ts us xs ys one.are_heavy_places other.are_heavy_places;
     }
 
 one_more : (k : ℕ) (ts : List SpanRanges) → k < length ts → held_in (take k ts) ++ (table_of ts k).held ≡ held_in (take (k + 1) ts)
@@ -139,19 +139,19 @@ one_more k ts lt =
     ∙ ap held_in (sym (take-suc ts k no_table lt)) ∙ ap (λ n. held_in (take n ts)) e
 
 pub under_next : (chunks : List Collection) (from : ℕ) (ts : List SpanRanges) (to : ℕ) (made more now : List SpanRanges)
-    (overs more_overs now_overs : List (Option HeavyPlace)) (was_over over : Option HeavyPlace) (was_until until begin k end : ℕ)
-    → Under chunks from ts made overs was_over was_until begin k → AreNeighbours from ts to → to ≤ leaf_end → k < length ts
-    → end ≡ cut (suc k) from ts → IsUnder chunks begin until over → AreLightParts chunks (table_of ts k).held begin more more_overs end
-    → now ≡ made ++ more → now_overs ≡ overs ++ more_overs → Under chunks from ts now now_overs over until end (k + 1)
-under_next chunks from ts to made more now overs more_overs now_overs was_over over was_until until begin k end was are leaves lt at is laid put
-    put_overs =
+    (heavy_places more_heavy_places now_heavy_places : List (Option HeavyPlace)) (was_over over : Option HeavyPlace) (was_until until begin k end : ℕ)
+    → Under chunks from ts made heavy_places was_over was_until begin k → AreNeighbours from ts to → to ≤ leaf_end → k < length ts
+    → end ≡ cut (suc k) from ts → IsUnder chunks begin until over → AreLightParts chunks (table_of ts k).held begin more more_heavy_places end
+    → now ≡ made ++ more → now_heavy_places ≡ heavy_places ++ more_heavy_places → Under chunks from ts now now_heavy_places over until end (k + 1)
+under_next chunks from ts to made more now heavy_places more_heavy_places now_heavy_places was_over over was_until until begin k end was are leaves lt at is laid put
+    put_heavy_places =
     let e : suc k ≡ k + 1 = omega arith in
-    let part = part_is chunks from ts to made overs was_over was_until begin k end was are leaves lt at in
+    let part = part_is chunks from ts to made heavy_places was_over was_until begin k end was are leaves lt at in
     record {
-      laid = subst (λ (hs : Collection). AreLightParts chunks hs from now now_overs end) (one_more k ts lt)
-          (subst (λ us. AreLightParts chunks (held_in (take k ts) ++ (table_of ts k).held) from us now_overs end) (sym put)
-          (subst (λ xs. AreLightParts chunks (held_in (take k ts) ++ (table_of ts k).held) from (made ++ more) xs end) (sym put_overs)
-          (laid_append chunks (held_in (take k ts)) (table_of ts k).held from begin end made more overs more_overs was.laid laid)));
+      laid = subst (λ (hs : Collection). AreLightParts chunks hs from now now_heavy_places end) (one_more k ts lt)
+          (subst (λ us. AreLightParts chunks (held_in (take k ts) ++ (table_of ts k).held) from us now_heavy_places end) (sym put)
+          (subst (λ xs. AreLightParts chunks (held_in (take k ts) ++ (table_of ts k).held) from (made ++ more) xs end) (sym put_heavy_places)
+          (laid_append chunks (held_in (take k ts)) (table_of ts k).held from begin end made more heavy_places more_heavy_places was.laid laid)));
       begins = at ∙ ap (λ n. cut n from ts) e;
       known = λ less. under_back chunks begin until end over is
           (odd_end from ts to k end are lt at) (let some = part.some in omega arith) less;
@@ -162,10 +162,10 @@ under_next chunks from ts to made more now overs more_overs now_overs was_over o
     odd_end from (t ∷ ts) to zero end are lt at = subst (λ n. n % 2 ≡ 1) (sym at) are.1.within.odd_end
     odd_end from (t ∷ ts) to (suc k) end are lt at = odd_end t.to ts to k end are.2 (omega arith) at
 
-pub under_all : (chunks : List Collection) (from : ℕ) (ts : List SpanRanges) (to : ℕ) (made : List SpanRanges) (overs : List (Option HeavyPlace))
-    (over : Option HeavyPlace) (until begin k : ℕ) → Under chunks from ts made overs over until begin k → AreNeighbours from ts to
-    → k ≡ length ts → AreLightParts chunks (held_in ts) from made overs to
-under_all chunks from ts to made overs over until begin k was are all =
+pub under_all : (chunks : List Collection) (from : ℕ) (ts : List SpanRanges) (to : ℕ) (made : List SpanRanges) (heavy_places : List (Option HeavyPlace))
+    (over : Option HeavyPlace) (until begin k : ℕ) → Under chunks from ts made heavy_places over until begin k → AreNeighbours from ts to
+    → k ≡ length ts → AreLightParts chunks (held_in ts) from made heavy_places to
+under_all chunks from ts to made heavy_places over until begin k was are all =
     let ends : begin ≡ to = was.begins ∙ cut_end k from ts to are all in
-    subst (λ us. AreLightParts chunks (held_in us) from made overs to) (take_all k ts (omega (arith, all)))
-    (subst (λ n. AreLightParts chunks (held_in (take k ts)) from made overs n) ends was.laid)
+    subst (λ us. AreLightParts chunks (held_in us) from made heavy_places to) (take_all k ts (omega (arith, all)))
+    (subst (λ n. AreLightParts chunks (held_in (take k ts)) from made heavy_places n) ends was.laid)

@@ -20,15 +20,15 @@ tables_of tables = map arc_value tables
 -- a part: what its table shows, and the place that leads to the heavy pairs over it
 pub record TablePart : Type 0 where
   pub table : SpanRanges
-  pub over : Option HeavyPlace
+  pub heavy_place : Option HeavyPlace
 
 -- what the tables of parts show
 abbrev pub spans_of : List TablePart → List SpanRanges
 spans_of parts = map (λ p. p.table) parts
 
 -- for each part the place that leads to the heavy pairs over it
-abbrev pub overs_of : List TablePart → List (Option HeavyPlace)
-overs_of parts = map (λ p. p.over) parts
+abbrev pub heavy_places_of : List TablePart → List (Option HeavyPlace)
+heavy_places_of parts = map (λ p. p.heavy_place) parts
 
 -- what stands for the table of no part
 abbrev pub no_table : SpanRanges

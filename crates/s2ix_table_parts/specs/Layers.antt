@@ -11,8 +11,8 @@ use Rattle.s2ix_bag_pairs.specs.declared.pair.Entry.{Entry}
 use Rattle.s2ix_table_walk.specs.Contents.{contents_at}
 
 -- the pairs of both layers, in rising order
-unfoldable pub together : Collection → Collection → Collection
-together light heavy = joined light heavy
+unfoldable pub joined_layers : Collection → Collection → Collection
+joined_layers light heavy = joined light heavy
 
 -- no pair is in both layers
 abbrev pub ShareNoPair : Collection → Collection → Type 0
@@ -35,8 +35,8 @@ abbrev pub entries_where : (CellId → Bool) → List Entry → List Entry
 entries_where test change = filter (λ e. test e.pair.cell) change
 
 -- a test that passes exactly what another one fails
-abbrev pub fails : (CellId → Bool) → CellId → Bool
-fails test cell = not (test cell)
+abbrev pub opposite : (CellId → Bool) → CellId → Bool
+opposite test cell = not (test cell)
 
 -- whether a held pair has a cell
 abbrev pub holds_cell : Collection → CellId → Bool

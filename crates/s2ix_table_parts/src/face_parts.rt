@@ -6,16 +6,17 @@ ghost use Rattle.s2ix_bag_pairs.specs.Collection.{AreBelow, IsCollection, IsColl
 ghost use Rattle.s2ix_bag_pairs.specs.Pair.{rank_of};
 ghost use Rattle.s2ix_table_spans.specs.SpanTable.{IsInSpan};
 ghost use Rattle.s2ix_table_heavy.specs.Chunks.{AreChunks};
-ghost use Rattle.s2ix_table_parts.specs.FaceSpans.{AreOnFace, overs_of, spans_of, tables_of};
+ghost use Rattle.s2ix_table_parts.specs.FaceSpans.{AreOnFace, heavy_places_of, spans_of, tables_of};
 ghost use Rattle.s2ix_table_parts.specs.Neighbours.{AreNeighbours, held_in};
 ghost use Rattle.s2ix_table_parts.specs.Layered.{AreLightParts, IsFaceLayered, face_pairs};
 ghost use Rattle.s2ix_table_parts.specs.Made.{IfOkSome};
 
+use crate::faces::face_begin;
 use crate::heavy_pairs::HeavyPairs;
 use crate::part::{Part, share_under};
 use crate::parts::{greatest_end, least_begin, parts_over};
 use crate::split::{Layers, split};
-use s2id_core::{FACE_NUMBERS, OutOfMemory};
+use s2id_core::OutOfMemory;
 use s2ix_bag_held::FlatHeld;
 use s2ix_bag_lists::HeldParts;
 use s2ix_bag_pairs::Pair;
@@ -43,11 +44,11 @@ pub(crate) fn face_parts(
     requires rises { IsCollection held.now }
     requires within_limit { length held.now ≤ 1000000 }
     requires on_face { AreOnFace face held.now }
-    ensures layered { IfOk result (λ f. IsFaceLayered face f.heavy (spans_of f.parts.items) (overs_of f.parts.items)) }
+    ensures layered { IfOk result (λ f. IsFaceLayered face f.heavy (spans_of f.parts.items) (heavy_places_of f.parts.items)) }
     ensures pairs { IfOk result (λ f. face_pairs f.parts.items f.heavy ≡ held.now) }
 {
-    let from = u64::from(face) * FACE_NUMBERS + 1;
-    let to = from + FACE_NUMBERS;
+    let from = face_begin(face);
+    let to = face_begin(face + 1);
     let tables = parts_over(alloc, held.parts(), from, to)?;
     let max_part_len = held.max_part_len();
     if has_large(tables.as_slice(), max_part_len) {
@@ -60,12 +61,12 @@ pub(crate) fn face_parts(
     plain(alloc, tables.as_slice())
 }
 
-// Whether a table has more than twice `max_part_len` pairs. No clause says so: it only saves work. O(p) for p tables.
+// Whether one of these tables is large. O(p) for p tables.
 pub(crate) fn has_large(tables: &[Arc<SpanTable>], max_part_len: usize) -> bool {
     tables.iter().any(|table| is_large(table, max_part_len))
 }
 
-// Whether a table has more than twice `max_part_len` pairs. No clause says so: it only saves work.
+// Whether a table is large: it has more than twice `max_part_len` pairs. No clause says so: an edit within a smaller one is quicker. O(1).
 pub(crate) fn is_large(table: &SpanTable, max_part_len: usize) -> bool {
     table.pair_count() > max_part_len && table.pair_count() - max_part_len > max_part_len
 }
@@ -74,7 +75,7 @@ pub(crate) fn is_large(table: &SpanTable, max_part_len: usize) -> bool {
 fn plain(alloc: Global, tables: &[Arc<SpanTable>]) -> Result<FaceParts, OutOfMemory>
     ensures parts { IfOk result (λ f. spans_of f.parts.items ≡ tables_of tables.now) }
     ensures heavy { IfOk result (λ f. f.heavy ≡ []) }
-    ensures overs { IfOk result (λ f. overs_of f.parts.items ≡ replicate (length (tables_of tables.now)) None) }
+    ensures heavy_places { IfOk result (λ f. heavy_places_of f.parts.items ≡ replicate (length (tables_of tables.now)) None) }
 {
     let mut parts = Vec::with_capacity(alloc, tables.len())?;
     share_under(&mut parts, tables, None)?;
@@ -98,7 +99,7 @@ fn layered(
     requires chunks { AreChunks layers.chunks.items }
     ensures heavy { IfOkSome result (λ f. f.heavy ≡ layers.chunks.items) }
     ensures parts { IfOkSome result (λ f.
-        AreLightParts layers.chunks.items layers.light.items from (spans_of f.parts.items) (overs_of f.parts.items) to) }
+        AreLightParts layers.chunks.items layers.light.items from (spans_of f.parts.items) (heavy_places_of f.parts.items) to) }
 {
     let heavy = HeavyPairs::over(alloc, layers.chunks)?;
     over_spans(
@@ -126,7 +127,7 @@ pub(crate) fn over_spans(
     requires leaves { to ≤ leaf_end }
     ensures heavy { IfOkSome result (λ f. f.heavy ≡ heavy) }
     ensures parts { IfOkSome result (λ f.
-        AreLightParts heavy light.now from (spans_of f.parts.items) (overs_of f.parts.items) to) }
+        AreLightParts heavy light.now from (spans_of f.parts.items) (heavy_places_of f.parts.items) to) }
 {
     let mut parts = Vec::new(alloc);
     let mut rest = light;

@@ -19,7 +19,7 @@ use std::alloc::{AllocError, Global};
 use std::marker::Model;
 use std::sync::Arc;
 
-/// The heavy pairs of a face, in chunks, to be shared. Without a pair it does not allocate. Contracts see the chunks.
+/// The heavy pairs of a face, in chunks, which copies share. Without a pair it does not allocate. Contracts see the chunks.
 #[derive(Debug, Drop)]
 pub struct HeavyPairs {
     shared: Option<Arc<HeavyTable>>,
@@ -35,7 +35,7 @@ impl Model for HeavyPairs {
 }
 
 impl HeavyPairs {
-    /// No pairs.
+    /// No pairs. O(1).
     pub fn none() -> HeavyPairs
         ensures { result ≡ [] }
     {
@@ -73,9 +73,8 @@ impl HeavyPairs {
         }
     }
 
-    // The place of the innermost pair over a leaf, which is given by its number, if there is one; and a later leaf number, or the end of
-    // all leaves: all leaves from this one up to there lie under the same pairs, and the leaf there, if there is one, under others.
-    // O(log c) for c chunks.
+    // The place of the innermost pair over the leaf with this number, or `None` if there is none, and the number of the next leaf that lies
+    // under other pairs, or the end of all leaves. O(log c) for c chunks.
     pub(crate) fn first_over(&self, leaf: u64) -> (Option<HeavyPlace>, u64)
         requires odd { leaf % 2 ≡ 1 }
         requires ends { leaf < leaf_end }
@@ -141,7 +140,7 @@ impl HeavyPairs {
     }
 
     /// Puts a changed chunk into its place. O(1) if no copy shares the pairs, else O(c) for c chunks. `OutOfMemory` if a growth is refused, or
-    /// a chunk is shared too often: then all pairs stay.
+    /// a chunk is shared too often: then nothing changes.
     pub fn put_chunk(&mut self, alloc: Global, chunk: ChangedChunk) -> Result<(), OutOfMemory>
         requires { FitsChunk self.old chunk.number chunk.held }
         ensures put { OnOk result (self.new ≡ set self.old chunk.number chunk.held) }
@@ -188,7 +187,7 @@ impl Clone for HeavyPairs {
     }
 }
 
-/// Heavy pairs are in chunks, as their table keeps them.
+/// The chunks of heavy pairs rise one after the other, none is empty, and each has pairs of one cell.
 pub fn heavy_pairs_are_in_chunks(heavy: &HeavyPairs)
     ensures { AreChunks heavy.now }
 {

@@ -3,7 +3,7 @@ ghost use Rattle.std.specs.Prelude.{◌≡◌, ◌↔◌, List};
 ghost use Rattle.s2ix_bag_pairs.specs.Collection.{Collection};
 ghost use Rattle.s2ix_table_parts.specs.FaceSpans.{TablePart};
 
-use crate::face_after::Face;
+use crate::change::face_after::Face;
 use crate::heavy_pairs::HeavyPairs;
 pub use crate::heavy_pairs::heavy_pairs_are_in_chunks;
 use crate::part::Part;

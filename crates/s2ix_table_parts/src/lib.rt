@@ -17,35 +17,30 @@
 //!
 //! | A change of a face | What is made anew | Call |
 //! |---|---|---|
-//! | has all its entries in one chunk, which keeps a pair and doesn't get too long | that chunk | [`Face::chunk_after`] |
-//! | is another | the parts and the chunks that its entries touch, else the whole face | [`Face::after`] |
-//! | is of no pair | nothing | [`Face::unchanged`] |
-//! | comes first: there are no parts yet | the whole face | [`all_anew`] |
+//! | All its entries fall into one chunk, which keeps a pair and doesn't get too long | that chunk | [`Face::chunk_after`] |
+//! | Any other | the parts and the chunks that its entries touch, or the whole face | [`Face::after`] |
+//! | It has no entries | nothing | [`Face::unchanged`] |
+//! | There are no parts yet | the whole face | [`all_anew`] |
 //!
 //! A face has at most 1,000,000 pairs. A part has about as many as a list of the bag may have, if its pairs can be cut. No clause says where
 //! parts begin, which of them stay or which cells are heavy, since only costs depend on it. This room knows neither bags nor other faces, and
-//! doesn't count ranges. All this is work of `s2ix_table`: it reads a bag face by face, keeps the parts of six faces in one list, and numbers
-//! their ranges, of which two that meet at a seam may be one.
+//! doesn't count ranges. All this is work of `s2ix_table_faced`: it reads a bag face by face, keeps the parts of six faces in one list, and
+//! numbers their ranges, of which two that meet at a seam may be one.
 #![tactic(auto)]
 
-mod chunks_after;
-mod face_after;
+mod change;
 mod face_parts;
-mod heavy_after;
+mod faces;
 mod heavy_pairs;
 pub mod laws;
-mod layers_after;
-mod light_after;
-mod new_parts;
-mod one_chunk;
 mod part;
 mod parts;
-mod parts_changed;
 mod split;
 
-pub use face_after::{Face, all_anew};
+pub use change::face_after::{Face, all_anew};
+pub use change::new_parts::{NewFace, NewParts, put_between};
+pub use change::parts_changed::changed_tables;
+pub use faces::face_begin;
 pub use heavy_pairs::HeavyPairs;
-pub use new_parts::{NewFace, NewParts, put_between};
 pub use part::{Part, begins_of};
 pub use parts::parts_over;
-pub use parts_changed::parts_after;

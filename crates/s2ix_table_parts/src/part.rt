@@ -1,6 +1,6 @@
 //! One part of a table, and lists of parts.
 ghost use Rattle.std.specs.Prelude.{◌≡◌, ◌<◌, ◌+◌, ◌++◌, IfOk, OnOk, length, replicate};
-ghost use Rattle.s2ix_table_parts.specs.FaceSpans.{overs_of, spans_of, starts_of, table_of, tables_of};
+ghost use Rattle.s2ix_table_parts.specs.FaceSpans.{heavy_places_of, spans_of, starts_of, table_of, tables_of};
 
 use s2id_core::OutOfMemory;
 use s2ix_table_heavy::HeavyPlace;
@@ -9,12 +9,12 @@ use std::alloc::{AllocError, Global};
 use std::marker::Model;
 use std::sync::Arc;
 
-/// A part of a table: a table over some leaves of one face, to be shared, and the place of the innermost heavy pair over it. Contracts see
+/// A part of a face: a table over some of its leaves, which copies share, and the place of the innermost heavy pair over them. Contracts see
 /// what the table shows, and that place.
 #[derive(Debug, Drop)]
 pub struct Part {
     table: Arc<SpanTable>,
-    over: Option<HeavyPlace>,
+    heavy_place: Option<HeavyPlace>,
 }
 
 impl Model for Part {
@@ -22,11 +22,11 @@ impl Model for Part {
 
     ghost Value = { TablePart };
 
-    ghost view = { λ part. record { table = part.table.value; over = part.over } };
+    ghost view = { λ part. record { table = part.table.value; heavy_place = part.heavy_place } };
 }
 
 impl Part {
-    /// The part's table.
+    /// The part's table. O(1).
     #[inline]
     pub fn table(&self) -> &SpanTable
         ensures { result.now ≡ self.now.table }
@@ -34,21 +34,24 @@ impl Part {
         &self.table
     }
 
-    /// The place of the innermost heavy pair over it, from which the chain goes on outwards.
+    /// The place of the innermost heavy pair over the part, or `None` if there is none. The chain over each of its leaves goes on there. O(1).
     #[inline]
-    pub fn over(&self) -> Option<HeavyPlace>
-        ensures { result ≡ self.now.over }
+    pub fn heavy_place(&self) -> Option<HeavyPlace>
+        ensures { result ≡ self.now.heavy_place }
     {
-        self.over
+        self.heavy_place
     }
 
-    // Its table, shared once more, under heavy pairs to which another place leads. O(1).
-    pub(crate) fn under(&self, over: Option<HeavyPlace>) -> Result<Part, AllocError>
+    // A part with the same table, shared once more, and another place of the innermost heavy pair over it. O(1).
+    pub(crate) fn with_heavy_place(
+        &self,
+        heavy_place: Option<HeavyPlace>,
+    ) -> Result<Part, AllocError>
         ensures table { IfOk result (λ part. part.table ≡ self.now.table) }
-        ensures over { IfOk result (λ part. part.over ≡ over) }
+        ensures heavy_place { IfOk result (λ part. part.heavy_place ≡ heavy_place) }
     {
         let table = self.table.clone()?;
-        Ok(Part { table, over })
+        Ok(Part { table, heavy_place })
     }
 
     // Its table, shared once more. O(1).
@@ -68,23 +71,24 @@ impl Clone for Part {
         let table = self.table.clone()?;
         Ok(Part {
             table,
-            over: self.over,
+            heavy_place: self.heavy_place,
         })
     }
 }
 
-// Puts parts of these tables, each shared once more, behind others. The same place leads to the heavy pairs over each. O(p) for p of them.
+// Puts parts of these tables, each shared once more, behind others. They all have the same place of the innermost heavy pair over them. O(p)
+// for p tables.
 pub(crate) fn share_under(
     parts: &mut Vec<Part>,
     tables: &[Arc<SpanTable>],
-    over: Option<HeavyPlace>,
+    heavy_place: Option<HeavyPlace>,
 ) -> Result<(), AllocError>
     ensures tables { OnOk result (spans_of parts.new.items ≡ spans_of parts.old.items ++ tables_of tables.now) }
-    ensures overs { OnOk result (overs_of parts.new.items ≡ overs_of parts.old.items ++ replicate (length (tables_of tables.now)) over) }
+    ensures heavy_places { OnOk result (heavy_places_of parts.new.items ≡ heavy_places_of parts.old.items ++ replicate (length (tables_of tables.now)) heavy_place) }
 {
     for table in tables {
         let table = table.clone()?;
-        parts.push(Part { table, over })?;
+        parts.push(Part { table, heavy_place })?;
     }
     Ok(())
 }

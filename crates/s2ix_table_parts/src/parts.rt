@@ -15,10 +15,11 @@ use s2ix_table_spans::SpanTable;
 use std::alloc::Global;
 use std::sync::Arc;
 
-/// The tables of some pairs over neighbouring spans of leaves, which together go from the number `from` up to `to`. The pairs come in
-/// lists, each before the next one, and their cells lie in that span. Wherever all cells before a list end by where all cells from it on
-/// begin, a new part begins; a part of one list shares it. No clause says where parts begin or how many there are: only
-/// the bench shows it. O(n) for n pairs. `OutOfMemory` if a growth is refused.
+/// The tables of some pairs over neighbouring spans of leaves, which together go from the leaf number `from` up to `to`. `held` has the
+/// pairs, in rising lists, each before the next one, and all cells lie within that span. A table ends and the next one begins between two
+/// lists, if no cell before that place reaches over the begin of a cell behind it; a table over one list shares that list. No clause says
+/// how many tables there are or where they begin: only the bench shows it. O(n) for n pairs. `OutOfMemory` if a growth is refused, or a list
+/// is shared too often.
 pub fn parts_over(
     alloc: Global,
     held: ListsView<'_>,
@@ -145,11 +146,22 @@ pub(crate) fn in_one_list(alloc: Global, held: ListsView<'_>) -> Result<HeldList
         let list = held.at(0).clone()?;
         return Ok(list);
     }
-    let mut all = Vec::new(alloc);
+    let mut all = Vec::with_capacity(alloc, count_in_lists(held))?;
     let mut rest = held;
     while let Some((list, later)) = rest.split_first() {
         all.extend_from_slice(list.as_slice())?;
         rest = later;
     }
     HeldList::new(alloc, all)
+}
+
+// How many pairs some lists have. O(l log b) for l lists in b bundles.
+fn count_in_lists(lists: ListsView<'_>) -> usize
+    ensures { result ≤ length (all_of (lists_in lists.entry)) }
+{
+    let mut count = 0_usize;
+    for place in 0..lists.len() {
+        count = count.saturating_add(lists.at(place).as_slice().len());
+    }
+    count
 }

@@ -4,10 +4,10 @@ ghost use Rattle.s2ix_bag_lists.specs.Faces.{all_of};
 ghost use Rattle.s2ix_bag_pairs.specs.Collection.{IsCollection};
 ghost use Rattle.s2ix_bag_pairs.specs.declared.pair.Held.{Held};
 ghost use Rattle.s2ix_table_heavy.specs.Chunks.{AreChunks, IsOfOneCell};
-ghost use Rattle.s2ix_table_parts.specs.Layers.{ShareNoCell, together};
+ghost use Rattle.s2ix_table_parts.specs.Layers.{ShareNoCell, joined_layers};
 ghost use Rattle.s2ix_table_parts.specs.Split.{AreSplit, HaveLesserCells, IsRunAfter};
 
-use crate::chunks_after::put_chunks;
+use crate::change::chunks_after::put_chunks;
 use s2id_core::OutOfMemory;
 use s2ix_bag_held::{FlatHeld, HeldList};
 use std::alloc::Global;
@@ -29,7 +29,7 @@ pub(crate) fn split(
 ) -> Result<Layers, OutOfMemory>
     requires rises { IsCollection held.now }
     requires within_limit { length held.now ≤ 1000000 }
-    ensures pairs { IfOk result (λ layers. together layers.light.items (all_of layers.chunks.items) ≡ held.now) }
+    ensures pairs { IfOk result (λ layers. joined_layers layers.light.items (all_of layers.chunks.items) ≡ held.now) }
     ensures apart { IfOk result (λ layers. ShareNoCell layers.light.items (all_of layers.chunks.items)) }
     ensures chunks { IfOk result (λ layers. AreChunks layers.chunks.items) }
     ensures rises { IfOk result (λ layers. IsCollection layers.light.items) }
@@ -61,10 +61,10 @@ impl Layers {
         max_part_len: usize,
     ) -> Result<(), OutOfMemory>
         requires split { AreSplit self.old.light.items self.old.chunks.items }
-        requires next { IsRunAfter (together self.old.light.items (all_of self.old.chunks.items)) run.now }
+        requires next { IsRunAfter (joined_layers self.old.light.items (all_of self.old.chunks.items)) run.now }
         ensures split { OnOk result (AreSplit self.new.light.items self.new.chunks.items) }
-        ensures pairs { OnOk result (together self.new.light.items (all_of self.new.chunks.items)
-            ≡ together self.old.light.items (all_of self.old.chunks.items) ++ run.now) }
+        ensures pairs { OnOk result (joined_layers self.new.light.items (all_of self.new.chunks.items)
+            ≡ joined_layers self.old.light.items (all_of self.old.chunks.items) ++ run.now) }
     {
         if is_heavy {
             put_chunks(alloc, &mut self.chunks, run, max_part_len)?;

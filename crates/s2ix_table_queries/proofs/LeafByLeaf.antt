@@ -25,18 +25,18 @@ leaf_known n leaf is = let from = leaf_from (cell_numbered n) leaf is in (from.0
 
 -- ---- the leaves of a batch
 
-pub leaf_at : (numbers : List ℕ) (from : ℕ) (leaves : List CellId) (many k n : ℕ) (leaf : CellId) → IsBatchAt numbers from leaves many → k < many
+pub leaf_at : (numbers : List ℕ) (from : ℕ) (leaves : List CellId) (count k n : ℕ) (leaf : CellId) → IsBatchAt numbers from leaves count → k < count
     → n ≡ from + k → leaf ≡ get_or leaves k leaf → (leaf_in numbers n ≡ Some leaf) × (n < length numbers)
-leaf_at numbers from leaves many k n leaf block less at is =
+leaf_at numbers from leaves count k n leaf block less at is =
     let listed = block.listed in
     let within = block.within in
     let there = sym (block.each k less) ∙ slice_get_read leaves (length leaves) k leaf refl (omega arith) is in
     (subst (λ m. leaf_in numbers m ≡ Some leaf) (sym at) there, omega (arith, at))
 
-pub level_at : (numbers : List ℕ) (from : ℕ) (leaves : List CellId) (many k n : ℕ) (leaf : CellId) → IsBatchAt numbers from leaves many → k < many
+pub level_at : (numbers : List ℕ) (from : ℕ) (leaves : List CellId) (count k n : ℕ) (leaf : CellId) → IsBatchAt numbers from leaves count → k < count
     → n ≡ from + k → leaf ≡ get_or leaves k leaf → level_of (get_or leaves k leaf) ≡ 30
-level_at numbers from leaves many k n leaf block less at is =
-    let there = (leaf_at numbers from leaves many k n leaf block less at is).0 in
+level_at numbers from leaves count k n leaf block less at is =
+    let there = (leaf_at numbers from leaves count k n leaf block less at is).0 in
     subst (λ (l : CellId). level_of l ≡ 30) is (leaf_known (slice_index_or numbers n 0) leaf there).0
 
 -- ---- one more leaf

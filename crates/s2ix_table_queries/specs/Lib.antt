@@ -8,9 +8,8 @@ pub use Rattle.s2ix_table_walk.specs.Costs
 pub use Rattle.s2ix_table_walk.specs.Places
 pub use Rattle.s2ix_table_walk.specs.Shown
 pub use Rattle.s2ix_table_walk.specs.Stretches
+pub mod Bookmarks
 pub mod Iterators
-pub mod Copied
-pub mod Hints
 pub mod Leaf
 pub mod LeafContents
 pub mod ManyLeaves

@@ -43,7 +43,7 @@ pub record LacksRoom {R : Type 0} (held : Collection) (leaves : List ℕ) (answe
   pub short : (length ends ≤ answered) ⊎ (length out < length (over_first (answered + 1) leaves held))
 
 -- leaves are those of the numbers from a place of a list on, so many of them
-pub record IsBatchAt (numbers : List ℕ) (from : ℕ) (leaves : List CellId) (many : ℕ) : Type 0 where
-  pub within : from + many ≤ length numbers
-  pub listed : many ≤ length leaves
-  pub each : (k : ℕ) → k < many → slice_get leaves k ≡ leaf_in numbers (from + k)
+pub record IsBatchAt (numbers : List ℕ) (from : ℕ) (leaves : List CellId) (count : ℕ) : Type 0 where
+  pub within : from + count ≤ length numbers
+  pub listed : count ≤ length leaves
+  pub each : (k : ℕ) → k < count → slice_get leaves k ≡ leaf_in numbers (from + k)

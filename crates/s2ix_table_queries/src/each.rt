@@ -8,7 +8,7 @@ ghost use Rattle.s2ix_table_walk.specs.Places.{IsPlace, from_place};
 ghost use Rattle.s2ix_table_queries.specs.LeafContents.{AreContents};
 ghost use Rattle.s2ix_table_queries.specs.ManyLeaves.{AreAnswered, AreOver, IsBatchAt, IsNoLeaf, LacksRoom, leaf_in, over_first};
 
-use crate::hint::{BATCH, LeafHint};
+use crate::bookmark::{BATCH, Bookmark};
 use crate::leaf::leaf_of;
 use crate::leaf_contents::LeafContents;
 use crate::of_held::OfHeld;
@@ -21,7 +21,7 @@ use s2ix_bag_held::FlatHeld;
 pub struct Each {
     /// How many leaves are answered: those at the front of the list.
     pub answered: usize,
-    /// Why the next one is not.
+    /// Why it answered no more leaves.
     pub stop: EachStop,
 }
 
@@ -160,7 +160,7 @@ fn put_again<R: Copy>(out: &mut [R], from: usize, end: usize) -> Option<usize>
 #[derive(Drop)]
 struct Batch {
     leaves: [CellId; BATCH],
-    many: usize,
+    count: usize,
 }
 
 // The leaves of the numbers from a place on: at most as many as a batch has, up to the first number that is no leaf's. `None` if that is
@@ -168,21 +168,21 @@ struct Batch {
 #[inline]
 fn batch_at(numbers: &[u64], from: usize) -> Option<Batch>
     requires { from < length numbers.now }
-    ensures batch { IfSome result (λ batch. IsBatchAt numbers.now from batch.leaves batch.many) }
-    ensures some { IfSome result (λ batch. 0 < batch.many) }
+    ensures batch { IfSome result (λ batch. IsBatchAt numbers.now from batch.leaves batch.count) }
+    ensures some { IfSome result (λ batch. 0 < batch.count) }
     ensures none { result ≡ None → leaf_in numbers.now from ≡ None }
 {
     let first = leaf_of(numbers[from])?;
     let mut leaves = [first; BATCH];
-    let mut many = 1;
-    while many < BATCH && many < numbers.len() - from {
-        let Some(leaf) = leaf_of(numbers[from + many]) else {
+    let mut count = 1;
+    while count < BATCH && count < numbers.len() - from {
+        let Some(leaf) = leaf_of(numbers[from + count]) else {
             break;
         };
-        leaves[many] = leaf;
-        many += 1;
+        leaves[count] = leaf;
+        count += 1;
     }
-    Some(Batch { leaves, many })
+    Some(Batch { leaves, count })
 }
 
 // How many leaves are answered, and how many pairs are put for these.
@@ -192,10 +192,10 @@ struct Done {
     pairs: usize,
 }
 
-// Answers the leaves from one on that lie in the span of contents, as long as there is room. What lies over them is put already, for the leaf
-// before them: it is what was put from the place `from` on. No clause says how many are answered: this only saves work.
-#[inline(always)]
-fn put_same<T: RangeTable, R: OfHeld>(
+// Answers the leaves from one on that lie in the span of contents, as `put_same` says. It is not inlined, so that the loop has the
+// processor's registers for itself.
+#[inline(never)]
+fn put_run<T: RangeTable, R: OfHeld>(
     table: &T,
     contents: &LeafContents<'_, T::Place>,
     leaves: &[u64],
@@ -239,14 +239,14 @@ fn put_same<T: RangeTable, R: OfHeld>(
     done
 }
 
-// Answers the leaves of a batch in order, as long as there is room, and those behind it that lie in the same span as its last one. `near` is
-// a hint for the next leaf nearby.
-#[inline]
-fn put_batch<T: RangeTable, R: OfHeld>(
+// Answers the leaves from one on that lie in the span of contents, as long as there is room. What lies over them is put already, for the leaf
+// before them: it is what was put from the place `from` on. No clause says how many are answered: this only saves work.
+#[inline(always)]
+fn put_same<T: RangeTable, R: OfHeld>(
     table: &T,
+    contents: &LeafContents<'_, T::Place>,
     leaves: &[u64],
-    batch: &Batch,
-    near: &mut LeafHint,
+    from: usize,
     before: Done,
     ends: &mut [usize],
     out: &mut [R],
@@ -254,20 +254,51 @@ fn put_batch<T: RangeTable, R: OfHeld>(
     requires before { AreAnswered R.of (T.pairs table.now) leaves.now before.leaves ends.old out.old }
     requires count { before.pairs ≡ length (over_first before.leaves leaves.now (T.pairs table.now)) }
     requires room { before.pairs ≤ length out.old }
-    requires batch { IsBatchAt leaves.now before.leaves batch.now.leaves batch.now.many }
+    requires order { from ≤ before.pairs }
+    requires over { AreOver R.of (T.pairs table.now) contents.now.start contents.now.limit (drop from (take before.pairs out.old)) }
     ensures same { length out.new ≡ length out.old }
     ensures listed { length ends.new ≡ length ends.old }
     ensures answered { AreAnswered R.of (T.pairs table.now) leaves.now result.leaves ends.new out.new }
     ensures count { result.pairs ≡ length (over_first result.leaves leaves.now (T.pairs table.now)) }
     ensures room { result.pairs ≤ length out.old }
-    ensures short { result.leaves < before.leaves + batch.now.many
+    ensures more { before.leaves ≤ result.leaves }
+{
+    if before.leaves < leaves.len() && contents.has_leaf(leaves[before.leaves]) {
+        put_run(table, contents, leaves, from, before, ends, out)
+    } else {
+        before
+    }
+}
+
+// Answers the leaves of a batch in order, as long as there is room, and those behind it that lie in the same span as its last one. `last` is
+// the bookmark of the leaf that was answered last.
+#[inline]
+fn put_batch<T: RangeTable, R: OfHeld>(
+    table: &T,
+    leaves: &[u64],
+    batch: &Batch,
+    last: &mut Bookmark,
+    before: Done,
+    ends: &mut [usize],
+    out: &mut [R],
+) -> Done
+    requires before { AreAnswered R.of (T.pairs table.now) leaves.now before.leaves ends.old out.old }
+    requires count { before.pairs ≡ length (over_first before.leaves leaves.now (T.pairs table.now)) }
+    requires room { before.pairs ≤ length out.old }
+    requires batch { IsBatchAt leaves.now before.leaves batch.now.leaves batch.now.count }
+    ensures same { length out.new ≡ length out.old }
+    ensures listed { length ends.new ≡ length ends.old }
+    ensures answered { AreAnswered R.of (T.pairs table.now) leaves.now result.leaves ends.new out.new }
+    ensures count { result.pairs ≡ length (over_first result.leaves leaves.now (T.pairs table.now)) }
+    ensures room { result.pairs ≤ length out.old }
+    ensures short { result.leaves < before.leaves + batch.now.count
         → LacksRoom (T.pairs table.now) leaves.now result.leaves ends.old out.old }
 {
-    let mut hints = [LeafHint::none(); BATCH];
-    let many = batch.many.min(ends.len() - before.leaves);
-    let has_looked = table.look_for(&batch.leaves[..many], &mut hints);
+    let mut bookmarks = [Bookmark::none(); BATCH];
+    let count = batch.count.min(ends.len() - before.leaves);
+    let has_looked = table.look_for(&batch.leaves[..count], &mut bookmarks);
     let mut done = before;
-    for k in 0..batch.many {
+    for k in 0..batch.count {
         if before.leaves + k < done.leaves {
             continue;
         }
@@ -275,9 +306,9 @@ fn put_batch<T: RangeTable, R: OfHeld>(
         if done.leaves >= ends.len() {
             return done;
         }
-        let hint = if has_looked { hints[k] } else { *near };
-        let contents = table.contents_near(leaf, hint);
-        *near = contents.hint;
+        let bookmark = if has_looked { bookmarks[k] } else { *last };
+        let contents = table.contents_near(leaf, bookmark);
+        *last = contents.bookmark;
         let from = done.pairs;
         let Some(end) = put_leaf(table, &contents, leaf, out, from) else {
             return done;
@@ -292,11 +323,11 @@ fn put_batch<T: RangeTable, R: OfHeld>(
     done
 }
 
-/// Puts what lies over each of some leaves into a buffer: what [`chain_at`](crate::chain_at) gives for the first leaf, then for the next,
-/// and so on. Beside each leaf, `ends` gets how many are put for it and those before it. The leaves are given by their numbers, as a
-/// column has them, in any order, repeated or not. It answers leaves up to the first number that is no leaf's, or as many as both
-/// buffers have room for; past the answers both buffers may be overwritten. It does not allocate. O(log n + k) for each leaf with k pairs over
-/// it, and O(log n) for each of at most 63 more that it looks for before room ends; leaves that rise are quickest.
+/// Puts what lies over each of some leaves into `out`: what [`chain_at`](crate::chain_at) gives for the first leaf, then for the next, and so
+/// on. `ends[k]` gets how many pairs are put for `leaves[k]` and all leaves before it. The leaves are given by their numbers, in any order,
+/// repeated or not. It answers leaves up to the first number that is no leaf's, or as many as both buffers have room for; past the answers
+/// both buffers may be overwritten. It does not allocate. O(log n + k) for each leaf with k pairs over it, and O(log n) for each of at most
+/// 63 more that it looks for before room ends; leaves that rise are quickest.
 pub fn at_each<T: RangeTable, R: OfHeld>(
     table: &T,
     leaves: &[u64],
@@ -310,7 +341,7 @@ pub fn at_each<T: RangeTable, R: OfHeld>(
     ensures ends { length ends.new ≡ length ends.old }
     ensures out { length out.new ≡ length out.old }
 {
-    let mut near = LeafHint::none();
+    let mut last = Bookmark::none();
     let mut done = Done {
         leaves: 0,
         pairs: 0,
@@ -322,8 +353,8 @@ pub fn at_each<T: RangeTable, R: OfHeld>(
                 stop: EachStop::NoLeaf,
             };
         };
-        let next = done.leaves + batch.many;
-        done = put_batch(table, leaves, &batch, &mut near, done, ends, out);
+        let next = done.leaves + batch.count;
+        done = put_batch(table, leaves, &batch, &mut last, done, ends, out);
         if done.leaves < next {
             return Each {
                 answered: done.leaves,

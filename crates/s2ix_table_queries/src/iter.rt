@@ -6,19 +6,21 @@ ghost use Rattle.s2ix_table_walk.specs.Places.{IsPlace, from_place};
 ghost use Rattle.s2ix_table_queries.specs.Iterators.{numbered_rows, IsAtRange};
 ghost use Rattle.s2ix_table_walk.specs.Table.{range_at, IsFound};
 
+use crate::bookmark::Bookmark;
 use crate::table::RangeTable;
 use s2id_core::CellId;
 use s2ix_bag_pairs::Held;
 use s2ix_table_walk::RangeRow;
 
-/// The ranges of a table with their places, in order (S2's `RangeIterator`). O(1) for each.
+/// The ranges of a table with their places, in order (S2's `RangeIterator`). O(1) for each, but in a table of p parts O(log p) for the first and
+/// the last one of a part.
 #[derive(Debug, Drop)]
 #[derive_where(Clone)]
 pub struct RangeIter<'a, T> {
     table: &'a T,
     next: usize,
-    // what makes the next read quicker: see [`RangeTable::read_near`]
-    note: usize,
+    // that of the range that was given last
+    bookmark: Bookmark,
 }
 
 impl<'a, T: RangeTable> RangeIter<'a, T> {
@@ -31,7 +33,7 @@ impl<'a, T: RangeTable> RangeIter<'a, T> {
         RangeIter {
             table,
             next: 0,
-            note: 0,
+            bookmark: Bookmark::none(),
         }
     }
 
@@ -61,13 +63,13 @@ impl<T: RangeTable> Iterator for RangeIter<'_, T> {
             return None;
         }
         self.next = k + 1;
-        let (row, _first, note) = self.table.read_near(k, self.note);
-        self.note = note;
+        let (row, _first, bookmark) = self.table.read_near(k, self.bookmark);
+        self.bookmark = bookmark;
         Some((k, row))
     }
 }
 
-/// The ranges of a table with their places, in order (S2's `RangeIterator`). O(1), and O(1) for each.
+/// The ranges of a table with their places, in order (S2's `RangeIterator`). O(1), and what [`RangeIter`] says for each.
 pub fn ranges<T: RangeTable>(table: &T) -> RangeIter<'_, T>
     ensures start { IsAtRange T.ranges table.now result 0 }
     ensures gives { AlwaysYields
@@ -106,7 +108,8 @@ impl<T: RangeTable> Iterator for ChainIter<'_, T> {
     }
 }
 
-/// What lies over a range, innermost cell first, the labels of one cell rising (S2's `StartUnion()`). O(1), and O(1) for each pair.
+/// What lies over a range, innermost cell first, the labels of one cell rising (S2's `StartUnion()`). O(1), or O(log p) for a table in p
+/// parts, and O(1) for each pair.
 #[inline]
 pub fn contents<T: RangeTable>(table: &T, k: usize) -> ChainIter<'_, T>
     requires { k < length (T.ranges table.now) }

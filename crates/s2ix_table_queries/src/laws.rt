@@ -3,14 +3,12 @@ ghost use Rattle.std.specs.Prelude.{◌≡◌, ◌↔◌, IsTrue, ◌+◌};
 ghost use Rattle.s2ix_bag_pairs.specs.Label.{value_of};
 ghost use Rattle.s2ix_bag_pairs.specs.declared.pair.Held.{Held};
 ghost use Rattle.s2ix_table_queries.specs.declared.visit.Visit.{Visit};
-ghost use Rattle.s2ix_table_queries.specs.declared.copied.CopiedPlace.{CopiedPlace};
+ghost use Rattle.s2ix_table_queries.specs.declared.bookmark.Bookmark.{Bookmark};
 ghost use Rattle.s2ix_table_queries.specs.declared.each.Each.{Each};
 ghost use Rattle.s2ix_table_queries.specs.declared.each.EachStop.{EachStop};
-ghost use Rattle.s2ix_table_queries.specs.declared.hint.LeafHint.{LeafHint};
 
-use crate::copied::CopiedPlace;
+use crate::bookmark::Bookmark;
 use crate::each::{Each, EachStop};
-use crate::hint::LeafHint;
 use crate::iter::RangeIter;
 use crate::of_held::OfHeld;
 use crate::stretch::Stretch;
@@ -41,17 +39,6 @@ pub fn cloned_stretches_are_the_same<'a>()
     ensures never_fails { (stretch : _) → ⟦<Stretch<'a> as Clone>⟧.is_infallible stretch }
 {}
 
-/// Two places in a `CopiedTable` are equal exactly if they are the same.
-pub fn equal_copied_places_are_one()
-    ensures { (a b : CopiedPlace) → IsTrue (⟦<CopiedPlace as PartialEq>⟧.eq a b) ↔ (a ≡ b) }
-{}
-
-/// A clone of a place in a `CopiedTable` is the same, and cloning never fails.
-pub fn cloned_copied_places_are_the_same()
-    ensures same { (a copy : CopiedPlace) → ⟦<CopiedPlace as Clone>⟧.is_clone a copy ↔ (copy ≡ a) }
-    ensures never_fails { (a : CopiedPlace) → ⟦<CopiedPlace as Clone>⟧.is_infallible a }
-{}
-
 /// Two answers of `at_each` are equal exactly if they are the same.
 pub fn equal_answers_are_one()
     ensures { (a b : Each) → IsTrue (⟦<Each as PartialEq>⟧.eq a b) ↔ (a ≡ b) }
@@ -74,15 +61,15 @@ pub fn cloned_each_stops_are_the_same()
     ensures never_fails { (a : EachStop) → ⟦<EachStop as Clone>⟧.is_infallible a }
 {}
 
-/// Two hints are equal exactly if they are the same.
-pub fn equal_hints_are_one()
-    ensures { (a b : LeafHint) → IsTrue (⟦<LeafHint as PartialEq>⟧.eq a b) ↔ (a ≡ b) }
+/// Two bookmarks are equal exactly if they are the same.
+pub fn equal_bookmarks_are_one()
+    ensures { (a b : Bookmark) → IsTrue (⟦<Bookmark as PartialEq>⟧.eq a b) ↔ (a ≡ b) }
 {}
 
-/// A clone of a hint is the same, and cloning never fails.
-pub fn cloned_hints_are_the_same()
-    ensures same { (a copy : LeafHint) → ⟦<LeafHint as Clone>⟧.is_clone a copy ↔ (copy ≡ a) }
-    ensures never_fails { (a : LeafHint) → ⟦<LeafHint as Clone>⟧.is_infallible a }
+/// A clone of a bookmark is the same, and cloning never fails.
+pub fn cloned_bookmarks_are_the_same()
+    ensures same { (a copy : Bookmark) → ⟦<Bookmark as Clone>⟧.is_clone a copy ↔ (copy ≡ a) }
+    ensures never_fails { (a : Bookmark) → ⟦<Bookmark as Clone>⟧.is_infallible a }
 {}
 
 /// Of a held pair a buffer keeps the pair itself, its label, or the number of its label.

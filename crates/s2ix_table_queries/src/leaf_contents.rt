@@ -1,26 +1,26 @@
 ghost use Rattle.std.specs.Prelude.{◌≤◌, ◌<◌, IsTrue};
 
-use crate::hint::LeafHint;
+use crate::bookmark::Bookmark;
 use s2ix_bag_held::FlatHeld;
 
-/// What lies over each leaf of a span, innermost first: a chain in lists, from the pair at the place `innermost` on, and then the chain from
-/// the place `rest` of the table.
+/// What lies over each leaf of a span, innermost first: a chain in two lists, from the pair at the place `innermost` on, and then the chain
+/// from the place `rest` of the table.
 #[derive(Debug, Drop)]
 pub struct LeafContents<'a, P: Copy> {
-    /// The leaves are those from this number on,
+    /// The number of the first leaf of the span.
     pub start: u64,
-    /// and below this one.
+    /// The leaves of the span have numbers below this one.
     pub limit: u64,
-    /// The pairs of the lists.
+    /// The first list: pairs, those of other chains too.
     pub held: &'a [FlatHeld],
-    /// Beside each pair the place of the next one outwards; `held.len()` or more at the end of a chain.
+    /// The second list: for each pair the place of the next one outwards; `held.len()` or more if it is the last of its chain in the lists.
     pub outers: &'a [u32],
-    /// The place of the first pair of the chain in the lists; `held.len()` or more if there is none.
+    /// The place in the lists of the innermost pair; `held.len()` or more if it isn't there.
     pub innermost: u32,
-    /// Where the chain goes on after the lists.
+    /// The place in the table from which the chain goes on after the lists, or `None` if it ends there.
     pub rest: Option<P>,
-    /// A hint for the next call nearby.
-    pub hint: LeafHint,
+    /// Where the table keeps their range.
+    pub bookmark: Bookmark,
 }
 
 impl<P: Copy> LeafContents<'_, P> {

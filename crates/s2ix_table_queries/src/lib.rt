@@ -2,16 +2,10 @@
 //!
 //! A [`RangeTable`] keeps the ranges of a bag in order, and a chain of pairs for each. What meets a union is found by the `Meeting` of
 //! `s2ix_table_walk`, through a [`Meter`], which counts what is read; `find`, [`chain_at`], [`at_each`] and [`ranges`] read the table itself.
-//! [`CopiedTable`] keeps a list for each range: it is slow to build, and tests compare the tables of
-//! `s2ix_table` with it.
 #![tactic(auto)]
 
-mod copied;
-mod copied_filter;
-mod copied_pairs;
-mod copied_range;
+mod bookmark;
 mod each;
-mod hint;
 mod iter;
 mod labels;
 pub mod laws;
@@ -25,9 +19,8 @@ mod stretch;
 mod table;
 mod visit;
 
-pub use copied::{CopiedPlace, CopiedTable};
+pub use bookmark::{BATCH, Bookmark};
 pub use each::{Each, EachStop, at_each};
-pub use hint::{BATCH, LeafHint};
 pub use iter::{ChainIter, RangeIter, chain_at, contents, ranges};
 pub use leaf::{cell_of, leaf_of};
 pub use leaf_contents::LeafContents;

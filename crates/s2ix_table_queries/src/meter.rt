@@ -2,26 +2,23 @@ ghost use Rattle.std.specs.Prelude.{◌≡◌};
 ghost use Rattle.s2ix_table_walk.specs.Costs.{no_cost};
 ghost use Rattle.s2ix_table_walk.specs.Stretches.{IsSample, IsStretch};
 
+use crate::bookmark::Bookmark;
 use crate::stretch::Stretch;
 use crate::table::RangeTable;
 use s2ix_bag_pairs::Held;
 use s2ix_table_walk::{Cost, LeafWindow, RangeRow, Reader, SAMPLE_STEP};
 
 /// A reader of a table that counts what is read of it. It keeps two things at hand: the stretch of the part that it last went to, in
-/// which a search reads where ranges begin, and the note that makes the next read of a range nearby quicker.
+/// which a search reads where ranges begin, and the bookmark of the range that it read last.
 #[derive(Debug, Drop)]
 pub struct Meter<'a, T: RangeTable> {
     table: &'a T,
     cost: Cost,
     near: Stretch<'a>,
-    note: usize,
+    last: Bookmark,
     pub ghost near_is: { IsStretch (T.ranges table.now) near.first near.count near.starts.now },
     pub ghost sample_is: { IsSample near.count near.starts.now near.sample.now },
 }
-
-// A note that no table knows a range by. A search passes it for a range outside the stretch at hand, so that the compiler keeps the
-// reading of notes out of the search's loop.
-const NO_NOTE: usize = usize::MAX;
 
 impl<'a, T: RangeTable> Meter<'a, T> {
     /// A reader of a table that has read nothing. O(1).
@@ -34,7 +31,7 @@ impl<'a, T: RangeTable> Meter<'a, T> {
             table,
             cost: Cost::none(),
             near: Stretch::none(),
-            note: 0,
+            last: Bookmark::none(),
         }
     }
 }
@@ -76,10 +73,11 @@ impl<T: RangeTable> Reader for Meter<'_, T> {
         if own < self.near.count {
             return self.near.starts[own];
         }
-        self.table.read_near(k, NO_NOTE).0.start
+        // without a bookmark, so that the compiler keeps the reading near one out of a search's loop
+        self.table.read_near(k, Bookmark::none()).0.start
     }
 
-    // A sample of the stretch at hand has the range before that stretch, if it were one, and every 16th range after it.
+    // The sample of the stretch at hand has every 16th range after the one before the stretch.
     fn sampled_by(&self, k: usize) -> usize {
         let after = k.wrapping_sub(self.near.first).wrapping_add(1);
         k.saturating_sub(after % SAMPLE_STEP)
@@ -105,13 +103,13 @@ impl<T: RangeTable> Reader for Meter<'_, T> {
 
     fn go_to(&mut self, m: usize) {
         self.near = self.table.stretch(m);
-        self.note = self.near.note;
+        self.last = self.near.bookmark;
     }
 
     fn row_and_first(&mut self, k: usize) -> (RangeRow, Option<T::Place>) {
         self.cost.add_probe();
-        let (row, first, note) = self.table.read_near(k, self.note);
-        self.note = note;
+        let (row, first, bookmark) = self.table.read_near(k, self.last);
+        self.last = bookmark;
         (row, first)
     }
 

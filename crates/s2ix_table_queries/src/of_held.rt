@@ -1,6 +1,6 @@
 use s2ix_bag_pairs::{Held, Label};
 
-/// What a buffer keeps of a held pair: all of it, or its label.
+/// What [`at_each`](crate::at_each) puts into a buffer for a held pair: the pair with its count, its label, or the label's number.
 pub trait OfHeld: Copy {
     ghost use Rattle.s2ix_bag_pairs.specs.declared.pair.Held.{Held};
     ghost use Rattle.std.specs.Prelude.{◌≡◌};
@@ -8,7 +8,7 @@ pub trait OfHeld: Copy {
     // what is kept of a pair
     ghost of: { Held → Self };
 
-    /// What is kept of a pair.
+    /// What is kept of a pair. O(1).
     fn of_held(held: Held) -> Self
         ensures { result ≡ of held };
 }

@@ -2,8 +2,9 @@ ghost use Rattle.std.specs.Prelude.{List};
 ghost use Rattle.s2ix_table_walk.specs.Table.{Range};
 ghost use Rattle.s2ix_table_walk.specs.Stretches.{IsSample, IsStretch};
 
-/// Consecutive ranges of a table, which can be read by where they begin: `count` of them, from `first` on. Each begins at one of the
-/// `starts` and ends at the next.
+use crate::bookmark::Bookmark;
+
+/// Consecutive ranges of a table, with a list of where each begins: `count` of them, from `first` on. A search among them reads this list.
 #[derive(Clone, Copy, Debug)]
 pub struct Stretch<'a> {
     /// The place of the first one.
@@ -12,10 +13,10 @@ pub struct Stretch<'a> {
     pub count: usize,
     /// Where each begins, and after the last one where it ends.
     pub starts: &'a [u64],
-    /// Every 16th of the starts: the 16th, the 32nd and so on. None if the table keeps no such list.
+    /// Every 16th of the starts: the 16th, the 32nd and so on. Empty if the table keeps no such list.
     pub sample: &'a [u64],
-    /// A number of the table's own, for [`read_near`](crate::RangeTable::read_near).
-    pub note: usize,
+    /// Where the first one is: [`read_near`](crate::RangeTable::read_near) is quick from there.
+    pub bookmark: Bookmark,
 }
 
 impl Stretch<'_> {
@@ -29,7 +30,7 @@ impl Stretch<'_> {
             count: 0,
             starts: &[],
             sample: &[],
-            note: 0,
+            bookmark: Bookmark::none(),
         }
     }
 }

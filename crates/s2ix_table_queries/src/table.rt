@@ -14,7 +14,7 @@ ghost use Rattle.s2ix_table_walk.specs.Calls.{MayVisit, CallsOn, Visits};
 ghost use Rattle.s2ix_table_walk.specs.Costs.{ranges_met, IsWalkCost};
 ghost use Rattle.s2ix_table_queries.specs.LeafContents.{AreContents};
 
-use crate::hint::LeafHint;
+use crate::bookmark::Bookmark;
 use crate::labels::gather;
 use crate::leaf_contents::LeafContents;
 use crate::meter::Meter;
@@ -116,15 +116,15 @@ pub trait RangeTable: Sized {
         ensures { LeadsTo (chain self.now) result (range_at (ranges self.now) k).contents };
 
     /// The leaves of a range and the place of its innermost pair, as [`range`](RangeTable::range) and [`first`](RangeTable::first) give
-    /// them, and a note for the next call nearby. Any `note` is accepted; that of a nearby call, or of a stretch that has the range, makes
-    /// the call quicker: O(1) then.
-    fn read_near(&self, k: usize, note: usize) -> (RangeRow, Option<Self::Place>, usize)
+    /// them, and where the table keeps the range. Any bookmark is accepted. O(1) if it is of the same part, and the range is neither the first
+    /// nor the last one there; else as [`range`](RangeTable::range).
+    fn read_near(&self, k: usize, bookmark: Bookmark) -> (RangeRow, Option<Self::Place>, Bookmark)
         requires { k < length (ranges self.now) }
         ensures start { result.0.start ≡ (range_at (ranges self.now) k).start }
         ensures limit { result.0.limit ≡ (range_at (ranges self.now) k).limit }
         ensures first { LeadsTo (chain self.now) result.1 (range_at (ranges self.now) k).contents }
     {
-        (self.range(k), self.first(k), note)
+        (self.range(k), self.first(k), bookmark)
     }
 
     /// The pair at a place, with its count. O(1).
@@ -153,16 +153,16 @@ pub trait RangeTable: Sized {
         self.first(self.find(leaf))
     }
 
-    /// Looks for the ranges of `leaves`, and puts the hint for `leaves[k]` to `hints[k]`. Returns false if it did not look: then the hints say
-    /// nothing. A table may always return false, and does so by default. No clause says what a hint is:
-    /// [`contents_near`](RangeTable::contents_near) is quicker by it. O(log n) for each leaf.
-    fn look_for(&self, leaves: &[CellId], hints: &mut [LeafHint]) -> bool {
+    /// Looks for the ranges of `leaves`, and makes `bookmarks[k]` the bookmark of the range of `leaves[k]`. Returns false if it did not look: then
+    /// the bookmarks say nothing. A table may always return false, and does so by default. [`contents_near`](RangeTable::contents_near) is
+    /// quick from these bookmarks. O(log n) for each leaf.
+    fn look_for(&self, leaves: &[CellId], bookmarks: &mut [Bookmark]) -> bool {
         false
     }
 
-    /// What lies over a leaf, and over the leaves of a span around it. Any `hint` is accepted. O(1 + log d) if it names the leaf's range or one
-    /// d ranges before it in the same part, else O(log n). By default the span has only the leaf, and the hint is not read: O(log n).
-    fn contents_near(&self, leaf: CellId, hint: LeafHint) -> LeafContents<'_, Self::Place>
+    /// What lies over a leaf, and over the leaves of a span around it. Any bookmark is accepted. O(1 + log d) if it is of the leaf's range or of
+    /// one d ranges before it in the same part, else O(log n). By default the span has only the leaf, and the bookmark is not read: O(log n).
+    fn contents_near(&self, leaf: CellId, bookmark: Bookmark) -> LeafContents<'_, Self::Place>
         requires { level_of leaf ≡ 30 }
         ensures contents { AreContents (chain self.now) (pairs self.now) result.start result.limit result.held.now result.outers.now result.innermost result.rest }
         ensures from { result.start ≤ raw_of leaf }
@@ -175,7 +175,7 @@ pub trait RangeTable: Sized {
             outers: &[],
             innermost: 0,
             rest: self.first_over(leaf),
-            hint,
+            bookmark,
         }
     }
 

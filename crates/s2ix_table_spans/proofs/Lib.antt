@@ -1,5 +1,5 @@
 pub mod Keys
-pub mod InCommon
+pub mod Mapped
 pub mod Exchanges
 pub mod Chains
 pub mod Ranges

@@ -30,7 +30,8 @@ impl Block {
         self.start <= place && place < self.start + self.old
     }
 
-    // Where a place beside the block is once the new pairs stand there. What is after all places stays so.
+    // Where a place beside the block is once the new pairs stand there. What is after all places stays so. All numbers have 32 bits, so that
+    // the processor moves four places at once.
     #[inline]
     pub(crate) fn moved(self, place: u32) -> u32
         requires fits { self.start + self.old ≤ self.count }
@@ -38,10 +39,10 @@ impl Block {
         requires new_within_limit { self.new ≤ 1000000 }
         ensures { result ≡ moved self.start self.old self.new self.count place }
     {
-        if (place as usize) < self.start {
+        if place < self.start as u32 {
             place
         } else {
-            ((place as usize).min(self.count).saturating_sub(self.old) + self.new) as u32
+            place.min(self.count as u32).saturating_sub(self.old as u32) + self.new as u32
         }
     }
 
@@ -52,8 +53,8 @@ impl Block {
         requires new_within_limit { self.new ≤ 1000000 }
         ensures { result ≡ placed self.start self.new base place }
     {
-        if (place as usize) < self.new {
-            (self.start + place as usize) as u32
+        if place < self.new as u32 {
+            self.start as u32 + place
         } else {
             base
         }

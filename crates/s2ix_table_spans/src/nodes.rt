@@ -19,8 +19,34 @@ pub(crate) struct Nodes {
 }
 
 impl Nodes {
-    // Those of pairs over the leaves from one number up to another, by a sweep. O(n).
+    // Those of pairs over the leaves from one number up to another, by a sweep, in lists that have room for no more. The sweep's own lists are
+    // given back whole: if they shrank in place, they would leave gaps in memory into which few lists fit. O(n) for n pairs. `OutOfMemory` if
+    // a growth is refused.
     pub(crate) fn over(
+        alloc: Global,
+        pairs: &[FlatHeld],
+        from: u64,
+        to: u64,
+    ) -> Result<Nodes, OutOfMemory>
+        requires rises { IsCollection pairs.now }
+        requires within_limit { length pairs.now ≤ 1000000 }
+        requires span { IsInSpan pairs.now from to }
+        ensures { IfOk result (λ nodes. AreNodes pairs.now from to nodes.outer.items nodes.starts.items nodes.firsts.items) }
+    {
+        let Nodes {
+            outer,
+            starts,
+            firsts,
+        } = Nodes::with_room(alloc, pairs, from, to)?;
+        Ok(Nodes {
+            outer,
+            starts: Vec::from_slice(alloc, &starts)?,
+            firsts: Vec::from_slice(alloc, &firsts)?,
+        })
+    }
+
+    // The same in lists that have room for the most ranges that there could be, for a caller that soon lets them go.
+    pub(crate) fn with_room(
         alloc: Global,
         pairs: &[FlatHeld],
         from: u64,
@@ -41,8 +67,8 @@ impl Nodes {
             from,
             to,
         )?;
-        let starts = trim(pass.starts, pass.frontier.count);
-        let firsts = trim(pass.firsts, pass.frontier.count);
+        let starts = first_ones(pass.starts, pass.frontier.count);
+        let firsts = first_ones(pass.firsts, pass.frontier.count);
         Ok(Nodes {
             outer: pass.outer,
             starts,
@@ -51,11 +77,10 @@ impl Nodes {
     }
 }
 
-// The first elements of a list, in no more room than they need; if a smaller block is refused, they stay where they are.
-fn trim<T: Drop>(mut list: Vec<T>, len: usize) -> Vec<T>
+// The first elements of a list, in its own room.
+fn first_ones<T: Drop>(mut list: Vec<T>, len: usize) -> Vec<T>
     ensures { result.items ≡ take len list.items }
 {
     list.truncate(len);
-    list.shrink_to_fit();
     list
 }

@@ -220,19 +220,6 @@ impl SpanTable {
         self.outer.as_slice()
     }
 
-    /// Reads the pair at a place, and where it leads, so that both are in the processor's cache. No clause says which number it returns: a
-    /// caller keeps it only so that the compiler doesn't leave the read out. Any number is accepted. O(1).
-    #[inline]
-    pub fn touch(&self, place: u32) -> u64 {
-        match (
-            self.held().get(place as usize),
-            self.outer.get(place as usize),
-        ) {
-            (Some(held), Some(outer)) => held.cell().raw() ^ u64::from(*outer),
-            _ => 0,
-        }
-    }
-
     /// The place of the innermost pair over the first range, or `None` if nothing lies over it. It reads no list. O(1).
     pub fn first_at_start(&self) -> Option<u32>
         ensures { LeadsTo (chain_of self.now.held) result (range_at self.now.ranges 0).contents }

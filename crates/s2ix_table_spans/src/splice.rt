@@ -77,7 +77,7 @@ impl Before<'_> {
         ensures { IfOk result (λ nodes. AreNodes next.now self.entry.from self.entry.to nodes.outer.items nodes.starts.items nodes.firsts.items) }
     {
         let pairs = &next[block.start..block.start + block.new];
-        let own = Nodes::over(alloc, pairs, block.cell.span_start(), block.cell.span_end())?;
+        let own = Nodes::with_room(alloc, pairs, block.cell.span_start(), block.cell.span_end())?;
         let base = block.moved(self.base(block));
         let ranges = self.ranges_over(block.cell);
         self.joined(alloc, block, base, ranges, &own)
@@ -228,10 +228,22 @@ fn push_moved(places: &mut Vec<u32>, block: Block, beside: &[u32]) -> Result<(),
     requires new_within_limit { block.new ≤ 1000000 }
     ensures { OnOk result (places.new.items ≡ places.old.items ++ map (moved block.start block.old block.new block.count) beside.now) }
 {
-    for &place in beside {
-        places.push(block.moved(place))?;
-    }
+    let first = places.len();
+    places.extend_from_slice(beside)?;
+    move_all(&mut places[first..], block);
     Ok(())
+}
+
+// Moves places beside a block to where each is now.
+fn move_all(places: &mut [u32], block: Block)
+    requires fits { block.start + block.old ≤ block.count }
+    requires within_limit { block.count ≤ 1000000 }
+    requires new_within_limit { block.new ≤ 1000000 }
+    ensures { places.new ≡ map (moved block.start block.old block.new block.count) places.old }
+{
+    for place in places.iter_mut() {
+        *place = block.moved(*place);
+    }
 }
 
 // Appends the places of a block among all pairs.
@@ -245,10 +257,21 @@ fn push_placed(
     requires new_within_limit { block.new ≤ 1000000 }
     ensures { OnOk result (places.new.items ≡ places.old.items ++ map (placed block.start block.new base) own.now) }
 {
-    for &place in own {
-        places.push(block.placed(place, base))?;
-    }
+    let first = places.len();
+    places.extend_from_slice(own)?;
+    place_all(&mut places[first..], block, base);
     Ok(())
+}
+
+// Moves places among the new pairs of a block to where each is among all pairs.
+fn place_all(places: &mut [u32], block: Block, base: u32)
+    requires within_limit { block.start ≤ 1000000 }
+    requires new_within_limit { block.new ≤ 1000000 }
+    ensures { places.new ≡ map (placed block.start block.new base) places.old }
+{
+    for place in places.iter_mut() {
+        *place = block.placed(*place, base);
+    }
 }
 
 // Three lists of starts, one after the other.

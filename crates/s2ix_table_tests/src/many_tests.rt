@@ -2,7 +2,9 @@
 use s2id_core::{CellId, FACE_NUMBERS, LEAF_END};
 use s2id_union::CellUnion;
 use s2ix_bag::{Bag, Change, Entry, Held, Label, Limits, Pair};
-use s2ix_table::{ChainTable, Each, EachStop, FacedTable, LeafHint, RangeTable, at_each};
+use s2ix_table::{
+    BagReader, Bookmark, ChainTable, Each, EachStop, FacedTable, PairReader, RangeTable, at_each,
+};
 use std::alloc::Global;
 
 // The number of the first cell of level 9 on face 5.
@@ -173,12 +175,12 @@ fn leaves_are_answered_as_far_as_there_is_room(rt: HostRuntime) {
     }
 }
 
-// Whether a table looks for these leaves, 40 of them, and finds each by its hint, which then stays the same.
+// Whether a table looks for these leaves, 40 of them, and finds each by its bookmark, which then stays the same.
 fn looks_for(table: &FacedTable, leaves: &[CellId]) -> bool {
-    let mut hints = [LeafHint::none(); 40];
-    table.look_for(leaves, &mut hints)
-        && leaves.iter().zip(hints.iter()).all(|(leaf, hint)| leaf.is_leaf()
-            && table.contents_near(*leaf, *hint).hint == *hint)
+    let mut bookmarks = [Bookmark::none(); 40];
+    table.look_for(leaves, &mut bookmarks)
+        && leaves.iter().zip(bookmarks.iter()).all(|(leaf, bookmark)| leaf.is_leaf()
+            && table.contents_near(*leaf, *bookmark).bookmark == *bookmark)
 }
 
 // Whether a table looks for the last leaves of 40 neighbouring cells, given from the last cell to the first, but not for 40 leaves that rise.
@@ -194,8 +196,8 @@ fn looks_side_by_side(alloc: Global, bag: &Bag, first: u64) -> Option<bool> {
             .push(cell_at(first.wrapping_add(39 - k))?.range_max())
             .ok()?;
     }
-    let mut hints = [LeafHint::none(); 40];
-    Some(looks_for(&table, &falling) && !table.look_for(&rising, &mut hints))
+    let mut bookmarks = [Bookmark::none(); 40];
+    Some(looks_for(&table, &falling) && !table.look_for(&rising, &mut bookmarks))
 }
 
 #[test]
@@ -222,4 +224,27 @@ fn a_face_is_kept_in_parts(rt: HostRuntime) {
     assert!(rt; first.borders.first.saturating_add(38) <= last.borders.first);
     assert!(rt; last.until == LEAF_END);
     assert!(rt; table.window(1).borders.size == 0);
+}
+
+// How many pairs are read when one of these pairs gets another count.
+fn reads_of_a_change(alloc: Global) -> Option<u64> {
+    let bag = wide_bag(alloc)?;
+    let entry = Entry {
+        pair: pair_at(7)?,
+        before: 1,
+        after: 2,
+    };
+    let change = Change::from_entries(alloc, &[entry]).ok()?;
+    let next = bag.applied(alloc, &change).ok()?;
+    let mut table = FacedTable::build(alloc, &bag).ok()?;
+    let mut reader = BagReader::new(&next);
+    table.rebuild(alloc, &mut reader, &change).ok()?;
+    Some(reader.reads())
+}
+
+// All 20,000 pairs of the face are handed on. A bag knows where its faces begin and end, so at most twelve reads find this one.
+#[test]
+fn a_long_face_is_found_by_few_reads(rt: HostRuntime) {
+    let reads = reads_of_a_change(rt.alloc()).expect(&rt, "a table");
+    assert!(rt; 20_000 <= reads && reads <= 20_012);
 }

@@ -10,7 +10,7 @@ use s2id_samples::SET_UP;
 use s2ix_bag::{Bag, FlatHeld, Held, HeldList, ListsView, SharedLists};
 use s2ix_bag_samples::{WIDEST, bag_of, change_of};
 use s2ix_table::{ChainTable, RangeTable, SpanTable, chain_at};
-use s2ix_table_parts::{NewParts, parts_after, parts_over};
+use s2ix_table_parts::{NewParts, changed_tables, parts_over};
 use std::alloc::Global;
 use std::sync::Arc;
 
@@ -155,7 +155,7 @@ fn has_parts(alloc: Global, row: PartsRow) -> Option<bool> {
 }
 
 // Whether the parts of pairs become, by a change of them, so many parts that show what it makes of the pairs.
-fn has_parts_after(alloc: Global, row: ChangeRow) -> Option<bool> {
+fn has_changed_tables(alloc: Global, row: ChangeRow) -> Option<bool> {
     let (pairs, entries, size, count) = row;
     if size == 0 {
         return None;
@@ -166,7 +166,7 @@ fn has_parts_after(alloc: Global, row: ChangeRow) -> Option<bool> {
     let next = bag.applied(alloc, &change).ok()?;
     let held = next.flat(alloc).ok()?;
     let lists = lists_of(alloc, held.as_slice(), size)?;
-    let new = parts_after(
+    let new = changed_tables(
         alloc,
         &parts,
         ListsView::all(&lists),
@@ -187,8 +187,8 @@ fn parts_over_show_one_table(rt: HostRuntime) {
 }
 
 #[test]
-fn parts_after_show_one_table(rt: HostRuntime) {
+fn changed_tables_show_one_table(rt: HostRuntime) {
     for &row in &CHANGES {
-        assert!(rt; has_parts_after(rt.alloc(), row).expect(&rt, SET_UP));
+        assert!(rt; has_changed_tables(rt.alloc(), row).expect(&rt, SET_UP));
     }
 }

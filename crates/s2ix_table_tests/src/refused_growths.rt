@@ -3,9 +3,9 @@
 use crate::samples::are_same;
 use crate::small_parts::Both;
 use s2id_samples::SET_UP;
-use s2ix_bag::Bag;
+use s2ix_bag::{Bag, HeldParts};
 use s2ix_bag_samples::{WIDEST, are_flat_pairs, bag_of, change_of, holds_pairs};
-use s2ix_table::{BagReader, read_list};
+use s2ix_table::{BagReader, PairReader};
 use std::alloc::Global;
 use std::process::Abort;
 
@@ -21,10 +21,19 @@ fn a_bag(rt: HostRuntime) {
     assert!(rt; holds_pairs(&held, HELD));
 }
 
+// The pairs of face 2: the second one and the third one.
+fn face(alloc: Global, held: &Bag) -> Option<HeldParts> {
+    let mut reader = BagReader::new(held);
+    if reader.len() < 3 {
+        return None;
+    }
+    reader.read_between(alloc, 1, 3).ok()
+}
+
 #[test]
 fn a_face_of_a_bag(rt: HostRuntime) {
     let held = bag(&rt, rt.alloc());
-    let list = read_list(rt.alloc(), &mut BagReader::new(&held), 2).expect(&rt, SET_UP);
+    let list = face(rt.alloc(), &held).expect(&rt, SET_UP);
     assert!(rt; list.len() == 2 && list.parts().len() == 1);
     assert!(rt; are_flat_pairs(list.part_at(0).1.as_slice(), "5:3:2 5:4:1"));
 }

@@ -1,4 +1,4 @@
-/// Consecutive ranges of a table: `size` of them, from `first` on.
+/// Consecutive items of a list, such as ranges of a table or its borders: `size` of them, from `first` on.
 #[derive(Clone, Copy, Debug, PartialEq, Eq)]
 pub struct Window {
     /// The place of the first one.

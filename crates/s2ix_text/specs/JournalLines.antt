@@ -30,10 +30,10 @@ entry_of_parts (Some cell) (Some label) (Some m) (Some n) =
 
 -- the entry that a line writes with counts up to the greatest, or the first fault of its parts
 unfoldable pub entry_written : ℕ → List ℕ → Result Entry JournalFault
-entry_written most line =
+entry_written greatest line =
     if has_parts 4 line
     then entry_of_parts
-    (cell_written (part 0 line)) (label_written (part 1 line)) (side_written most (part 2 line)) (side_written most (part 3 line))
+    (cell_written (part 0 line)) (label_written (part 1 line)) (side_written greatest (part 2 line)) (side_written greatest (part 3 line))
     else Err BadLine
 
 -- an entry after the last of those above it in its group, or its first fault
@@ -46,7 +46,7 @@ entry_after limits last (Ok e) =
 
 -- the next entry of a group, by its line, or the first fault of the line
 unfoldable pub next_entry : ℕ → Limits → Option Pair → List ℕ → Result Entry JournalFault
-next_entry most limits last line = entry_after limits last (entry_written most line)
+next_entry greatest limits last line = entry_after limits last (entry_written greatest line)
 
 -- the last pair of a group so far
 abbrev pub last_pair : List Entry → Option Pair

@@ -23,21 +23,21 @@ pub record IsJournal (limits : Limits) (changes : List (List Entry)) : Type 0 wh
 
 -- an entry with counts up to the greatest that may be written
 abbrev pub HasSides : ℕ → Entry → Type 0
-HasSides most e = (e.before ≤ most) × (e.after ≤ most)
+HasSides greatest e = (e.before ≤ greatest) × (e.after ≤ greatest)
 
 -- entries of a group, so far
-pub record AreEntries (most : ℕ) (limits : Limits) (es : List Entry) : Type 0 where
+pub record AreEntries (greatest : ℕ) (limits : Limits) (es : List Entry) : Type 0 where
   pub list : IsChangeList es
-  pub sides : All (HasSides most) es
+  pub sides : All (HasSides greatest) es
   pub small : All (HasCountsWithin limits) es
 
 -- the entries of a whole group
-pub record IsGroup (most : ℕ) (limits : Limits) (es : List Entry) : Type 0 where
-  pub entries : AreEntries most limits es
+pub record IsGroup (greatest : ℕ) (limits : Limits) (es : List Entry) : Type 0 where
+  pub entries : AreEntries greatest limits es
   pub some : 1 ≤ length es
   pub within_limit : length es ≤ 2000000
 
 -- the groups of a journal, as many as the limits allow
-pub record AreGroups (most : ℕ) (limits : Limits) (changes : List (List Entry)) : Type 0 where
-  pub groups : All (IsGroup most limits) changes
+pub record AreGroups (greatest : ℕ) (limits : Limits) (changes : List (List Entry)) : Type 0 where
+  pub groups : All (IsGroup greatest limits) changes
   pub within_limit : length changes ≤ changes_limit limits

@@ -5,11 +5,11 @@ use Rattle.s2ix_text_parts.specs.Written.{number_written}
 
 -- a count before or after a change: from 0 to the greatest that may be written
 abbrev pub side_from : ℕ → ℕ → Option ℕ
-side_from most n = if nat_le n most then Some n else None
+side_from greatest n = if nat_le n greatest then Some n else None
 
 -- the count before or after a change that a text writes
 unfoldable pub side_written : ℕ → List ℕ → Option ℕ
-side_written most text = option_and_then (side_from most) (number_written text)
+side_written greatest text = option_and_then (side_from greatest) (number_written text)
 
 -- how many entries a change has: from 1 to 2000000
 abbrev pub size_from : ℕ → Option ℕ

@@ -26,9 +26,9 @@ held_of_parts (Some cell) (Some label) (Some n) = Ok (record { pair = record { c
 
 -- the held pair that a line writes, with a count up to the greatest that may be written, or the first fault of its parts
 unfoldable pub held_written : ℕ → List ℕ → Result Held DumpFault
-held_written most line =
+held_written greatest line =
     if has_parts 3 line
-    then held_of_parts (cell_written (part 0 line)) (label_written (part 1 line)) (count_written most (part 2 line))
+    then held_of_parts (cell_written (part 0 line)) (label_written (part 1 line)) (count_written greatest (part 2 line))
     else Err BadLine
 
 -- the line of a held pair, without its line feed
@@ -60,10 +60,10 @@ pub record IsNext (limits : Limits) (header : List ℕ) (hs : Collection) (line 
 
 -- the line of a held pair stands at the front of a text, in the common shape: its count is no greater than may be written, its label and
 -- its count have nine digits or less, and after it there is as much as an end line has at the least
-pub record IsCommonFront (most : ℕ) (text : List ℕ) (h : Held) (rest : List ℕ) : Type 0 where
+pub record IsCommonFront (greatest : ℕ) (text : List ℕ) (h : Held) (rest : List ℕ) : Type 0 where
   pub whole : text ≡ line_text h ++ 10 ∷ rest
   pub some : 1 ≤ h.count
-  pub within_limit : h.count ≤ most
+  pub within_limit : h.count ≤ greatest
   pub count : h.count < 10 ^ 9
   pub label : value_of h.pair.label < 10 ^ 9
   pub long : 16 < length text

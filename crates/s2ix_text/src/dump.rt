@@ -53,7 +53,7 @@ fn room_for_pairs(alloc: Global, limits: Limits, text: &[u8]) -> Result<Vec<Flat
     ensures within_limit { IfOk result (λ room. vec_capacity room ≤ pairs_limit limits) }
     ensures written { IfOk result (λ room. vec_capacity room * 6 ≤ length text.now) }
     ensures lines { IfOk result (λ room. vec_capacity room < length (lines_of text.now)) }
-    ensures asked { length text.now < 6 → IsOk result }
+    ensures memory { length text.now < 6 → IsOk result }
 {
     let lines = feeds_of(text).min(text.len() / SHORTEST_LINE);
     Ok(Vec::with_capacity(alloc, lines.min(limits.pairs() as usize))?)

@@ -22,7 +22,7 @@ fn room_for_entries(alloc: Global, size: usize, text: &[u8]) -> Result<Vec<Entry
     ensures empty { IfOk result (λ room. room.items ≡ []) }
     ensures within_size { IfOk result (λ room. vec_capacity room ≤ size) }
     ensures written { IfOk result (λ room. vec_capacity room * 8 ≤ length text.now) }
-    ensures asked { length text.now < 8 → IsOk result }
+    ensures memory { length text.now < 8 → IsOk result }
 {
     Vec::with_capacity(alloc, size.min(text.len() / SHORTEST_LINE))
 }

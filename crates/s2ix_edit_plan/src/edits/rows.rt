@@ -69,7 +69,7 @@ fn by_pair(alloc: Global, rows: &[Held]) -> Result<Vec<Held>, OutOfMemory>
 // The entries of rows that come in the order of their pairs.
 fn gains(alloc: Global, bag: &Bag, rows: &[Held]) -> Result<Vec<Entry>, EditError>
     ensures entries { IfOk result (λ entries. entries.items ≡ gains_of bag.now.held rows.now) }
-    ensures above { IfErr result (IsRowsError bag.now.held rows.now) }
+    ensures refused { IfErr result (IsRowsError bag.now.held rows.now) }
 {
     let mut entries = Vec::new(alloc);
     let Some((first, rest)) = rows.split_first() else {
@@ -94,7 +94,7 @@ fn gains(alloc: Global, bag: &Bag, rows: &[Held]) -> Result<Vec<Entry>, EditErro
 // Appends the entry of a row.
 fn push_gain(entries: &mut Vec<Entry>, bag: &Bag, row: Held) -> Result<(), EditError>
     ensures pushed { OnOk result (entries.new.items ≡ entries.old.items ++ gain_of bag.now.held row) }
-    ensures above { IfErr result (IsRowsError bag.now.held (row ∷ [])) }
+    ensures refused { IfErr result (IsRowsError bag.now.held (row ∷ [])) }
 {
     let before = bag.count(row.pair);
     let Some(after) = before.checked_add(row.count) else {

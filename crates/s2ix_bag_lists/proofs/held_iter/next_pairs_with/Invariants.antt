@@ -14,4 +14,4 @@ invariant-loop-part l =
     × (length (all_of l.parts.now ++ held_from l.bundles l.later.now) ≤ length (all_of l.initial.parts.now ++ held_from l.initial.bundles l.initial.later.now))
 
 abbrev pub decreases-loop-part : goal.decreases-loop-part
-decreases-loop-part l = length (all_of l.parts.now ++ held_from l.bundles l.later.now)
+decreases-loop-part l = length (held_from l.bundles l.later.now)

@@ -17,28 +17,28 @@ bounds-starts-first c =
 pub push_starts-requires : goal.push_starts-requires
 push_starts-requires c =
     let ps = lists_in c.args.parts in
-    let first = c.args.window.0 in
+    let first = c.args.replaced.0 in
     let start = starts_is c.args.starts.now ps first c.requires.counted (omega (arith, c.requires.some, c.requires.within)) in
-    omega (arith, start, length_spliced ps c.args.made.now first c.args.window.1, c.requires.within_limit)
+    omega (arith, start, length_spliced ps c.args.made.now first c.args.replaced.1, c.requires.within_limit)
 
 pub push_later_starts-requires-clause-within_limit : goal.push_later_starts-requires-clause-within_limit
 push_later_starts-requires-clause-within_limit c =
     let ps = lists_in c.args.parts in
-    let first = c.args.window.0 in
+    let first = c.args.replaced.0 in
     let start = starts_is c.args.starts.now ps first c.requires.counted (omega (arith, c.requires.some, c.requires.within)) in
-    let all = length_spliced ps c.args.made.now first c.args.window.1 in
+    let all = length_spliced ps c.args.made.now first c.args.replaced.1 in
     omega (arith, start, all, c.in_ok-now.ensures.end, c.requires.within_limit)
 
 pub overflow_sub-result : goal.overflow_sub-result
 overflow_sub-result c =
-    omega (arith, c.pairs_before-was.ensures, c.requires.whole, length_parted (lists_in c.args.parts) c.args.window.1)
+    omega (arith, c.pairs_before-was.ensures, c.requires.whole, length_parted (lists_in c.args.parts) c.args.replaced.1)
 
 pub overflow_add-result : goal.overflow_add-result
 overflow_add-result c =
     let ps = lists_in c.args.parts in
-    let first = c.args.window.0 in
+    let first = c.args.replaced.0 in
     let start = starts_is c.args.starts.now ps first c.requires.counted (omega (arith, c.requires.some, c.requires.within)) in
-    let all = length_spliced ps c.args.made.now first c.args.window.1 in
+    let all = length_spliced ps c.args.made.now first c.args.replaced.1 in
     omega (
       arith,
       start,
@@ -47,7 +47,7 @@ overflow_add-result c =
       c.requires.within_limit,
       c.pairs_before-was.ensures,
       c.requires.whole,
-      length_parted ps c.args.window.1,
+      length_parted ps c.args.replaced.1,
     )
 
 pub returns-clause-starts : goal.returns-clause-starts
@@ -55,8 +55,8 @@ returns-clause-starts c =
     let ps = lists_in c.args.parts in
     let starts = c.args.starts.now in
     let made = c.args.made.now in
-    let first = c.args.window.0 in
-    let end = c.args.window.1 in
+    let first = c.args.replaced.0 in
+    let end = c.args.replaced.1 in
     let start = get_or starts first 0 in
     let now = c.in_ok-now.now in
     let front : c.extend_from_slice.new.self.items ≡ take first starts =
@@ -72,9 +72,9 @@ returns-clause-starts c =
 pub returns-clause-len : goal.returns-clause-len
 returns-clause-len c =
     let ps = lists_in c.args.parts in
-    let first = c.args.window.0 in
+    let first = c.args.replaced.0 in
     let start = starts_is c.args.starts.now ps first c.requires.counted (omega (arith, c.requires.some, c.requires.within)) in
-    let all = length_spliced ps c.args.made.now first c.args.window.1 in
+    let all = length_spliced ps c.args.made.now first c.args.replaced.1 in
     omega (
       arith,
       start,
@@ -82,5 +82,5 @@ returns-clause-len c =
       c.in_ok-now.ensures.end,
       c.pairs_before-was.ensures,
       c.requires.whole,
-      length_parted ps c.args.window.1,
+      length_parted ps c.args.replaced.1,
     )

@@ -5,6 +5,8 @@ use Rattle.s2ix_cli_run.specs.Coming.{unended_after}
 use Rattle.s2ix_cli_run.specs.Run.{BringsLast, EndWasRead}
 use Rattle.s2ix_cli_run.proofs.Between.{AnswersInTurn-more, FaultAmong-asks, Between-last, Between-more, Between-flushing, Between-fault, Between-fault_last, Between-ends, Between-reading, Between-ended, Between-ends_flushing, Between-stops, FaultAmong-flushes, FaultAmong-reads, FaultAmong-source, ReadsOn-more, goes_on, stops_at}
 use Rattle.s2ix_cli_run.proofs.LineSteps.{plus_none}
+use Rattle.s2ix_cli_run.proofs.script.run.Given.{Over}
+use Rattle.s2ix_cli_run.proofs.script.run.Goals.{After-run_last}
 use Rattle.s2ix_cli_run.proofs.script.run.Goals as goal
 
 -- ---- no more can be read
@@ -27,6 +29,20 @@ returns-clause-answered g c = (c.pieces._turn, c.pieces.source, c.pieces.sink, c
 
 -- ---- the end of the input
 
+-- a piece with no byte is the end
+end_read : (g : Over) (c : After-run_last g)
+    → EndWasRead g.S.Source.left g.S.Source.gives c.args.options.turns c.args.source.now c.piece.new.self
+end_read g c = (
+  c.in_ok-count.ensures.end c.if-count-eq0.true,
+  (
+    c.pieces._turn,
+    omega (arith, c.pieces-test.true),
+    c.pieces.source,
+    c.pieces.invariant.1,
+    subst (λ n. g.S.Source.gives c.pieces.source n c.piece.new.self) c.if-count-eq0.true c.in_ok-count.ensures.call,
+  ),
+)
+
 pub returns-in_err-so_far-clause-ran : goal.returns-in_err-so_far-clause-ran
 returns-in_err-so_far-clause-ran g c =
     let exit = c.from_residual-in_err-so_far in
@@ -34,16 +50,7 @@ returns-in_err-so_far-clause-ran g c =
     let b =
     Between-last _ _ _ _ _ _ _ c.pieces.invariant.0 c.in_ok-count.ensures.bytes
     (ap (λ n. take n c.piece.new.buf) c.if-count-eq0.true) in
-    let end : EndWasRead g.S.Source.left g.S.Source.gives c.args.options.turns c.args.source.now c.piece.new.self = (
-      c.in_ok-count.ensures.end c.if-count-eq0.true,
-      (
-        c.pieces._turn,
-        omega (arith, c.pieces-test.true),
-        c.pieces.source,
-        c.pieces.invariant.1,
-        subst (λ n. g.S.Source.gives c.pieces.source n c.piece.new.self) c.if-count-eq0.true c.in_ok-count.ensures.call,
-      ),
-    ) in
+    let end = end_read g (goal.at-returns-in_err-so_far-clause-ran g c).After-run_last in
     rw (p.1, p.2) (Between-fault_last _ _ _ _ _ _ _ _ _ b _ _ _ _ end
     (c.in_err-so_far.ensures.runs c.args.options.stop (unended_after [] b.input) b.is_held))
 
@@ -78,16 +85,7 @@ returns-in_err-flush-clause-ran g c =
     let b =
     Between-last _ _ _ _ _ _ _ c.pieces.invariant.0 c.in_ok-count.ensures.bytes
     (ap (λ n. take n c.piece.new.buf) c.if-count-eq0.true) in
-    let end : EndWasRead g.S.Source.left g.S.Source.gives c.args.options.turns c.args.source.now c.piece.new.self = (
-      c.in_ok-count.ensures.end c.if-count-eq0.true,
-      (
-        c.pieces._turn,
-        omega (arith, c.pieces-test.true),
-        c.pieces.source,
-        c.pieces.invariant.1,
-        subst (λ n. g.S.Source.gives c.pieces.source n c.piece.new.self) c.if-count-eq0.true c.in_ok-count.ensures.call,
-      ),
-    ) in
+    let end = end_read g (goal.at-returns-in_err-flush-clause-ran g c).After-run_last in
     rw (p.1, p.2) (Between-ends_flushing _ _ _ _ _ _ _ _ _ b _ _ _ _
     (c.in_ok-so_far.ensures.runs c.args.options.stop (unended_after [] b.input) b.is_held) c.in_err-flush.ensures.bytes _ end)
 
@@ -96,16 +94,7 @@ returns-then-count-eq0-clause-ran g c =
     let b =
     Between-last _ _ _ _ _ _ _ c.pieces.invariant.0 c.in_ok-count.ensures.bytes
     (ap (λ n. take n c.piece.new.buf) c.if-count-eq0.true) in
-    let end : EndWasRead g.S.Source.left g.S.Source.gives c.args.options.turns c.args.source.now c.piece.new.self = (
-      c.in_ok-count.ensures.end c.if-count-eq0.true,
-      (
-        c.pieces._turn,
-        omega (arith, c.pieces-test.true),
-        c.pieces.source,
-        c.pieces.invariant.1,
-        subst (λ n. g.S.Source.gives c.pieces.source n c.piece.new.self) c.if-count-eq0.true c.in_ok-count.ensures.call,
-      ),
-    ) in
+    let end = end_read g (goal.at-returns-then-count-eq0-clause-ran g c).After-run_last in
     Between-ends _ _ _ _ _ _ _ _ _ b _ _ _ _ (c.in_ok-so_far.ensures.runs c.args.options.stop (unended_after [] b.input) b.is_held)
     c.in_ok-flush.ensures.bytes _ end
 

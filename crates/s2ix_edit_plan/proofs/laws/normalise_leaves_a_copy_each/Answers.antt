@@ -6,8 +6,8 @@ use Rattle.s2ix_edit_plan.proofs.laws.normalise_leaves_a_copy_each.Goals as goal
 pub returns-clause-cells : goal.returns-clause-cells
 returns-clause-cells c = λ hs label cell is has. normalised_cell label hs cell is has
 
-pub returns-clause-elsewhere : goal.returns-clause-elsewhere
-returns-clause-elsewhere c = λ hs label cell is lacks. normalised_elsewhere label hs cell lacks
+pub returns-clause-other_cells : goal.returns-clause-other_cells
+returns-clause-other_cells c = λ hs label cell is lacks. normalised_elsewhere label hs cell lacks
 
 pub returns-clause-others : goal.returns-clause-others
 returns-clause-others c =

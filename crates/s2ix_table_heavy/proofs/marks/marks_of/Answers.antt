@@ -2,10 +2,10 @@ use Rattle.std.proofs.Common.{◌+◌, ◌<◌, [], length, get_or, sym, ◌∙�
 use Rattle.std.proofs.lemmas.List.{get_or_default}
 use Rattle.std.proofs.lemmas.List.Elements.{Contains-get_or}
 use Rattle.s2ix_bag_lists.proofs.Joins.{filled_at}
+use Rattle.s2ix_bag_lists.proofs.Windows.{filled_count}
 use Rattle.s2ix_bag_pairs.specs.Collection.{Collection}
 use Rattle.s2ix_bag_pairs.specs.declared.pair.Held.{Held}
 use Rattle.s2ix_table_heavy.specs.Chunks.{IsMark, IsOfOneCell}
-use Rattle.s2ix_table_heavy.proofs.Kept.{chunks_few}
 use Rattle.s2ix_table_heavy.proofs.MakingMarks.{AreFirstMarks, mark_more}
 use Rattle.s2ix_table_heavy.proofs.marks.marks_of.Goals as goal
 
@@ -29,7 +29,7 @@ pub mark_of-requires-clause-within_limit : goal.mark_of-requires-clause-within_l
 mark_of-requires-clause-within_limit c =
     let chunks = c.args.chunks.now in
     let within : c.loop-number.number < length chunks = omega arith in
-    let less = chunks_few chunks c.requires.filled in
+    let less = filled_count chunks c.requires.filled in
     let within_limit = c.requires.within_limit in
     omega arith
 

@@ -4,7 +4,7 @@ use Rattle.s2ix_bag_lists.specs.Faces.{all_of}
 use Rattle.s2ix_bag_lists.proofs.Joins.{back_rises}
 use Rattle.s2ix_bag_pairs.specs.Collection.{Collection, IsCollection}
 use Rattle.s2ix_table_heavy.specs.Chunks.{IsOfOneCell}
-use Rattle.s2ix_table_parts.specs.Layers.{together}
+use Rattle.s2ix_table_parts.specs.Layers.{joined_layers}
 use Rattle.s2ix_table_parts.specs.Split.{HaveLesserCells}
 use Rattle.s2ix_table_parts.proofs.Runs.{run_after, run_and_later, lesser_after, none_left}
 use Rattle.s2ix_table_parts.proofs.Splitting.{nothing_split, in_light, in_heavy}
@@ -17,7 +17,7 @@ loop-rest-init c =
 
 pub run_len-requires-clause-rises : goal.run_len-requires-clause-rises
 run_len-requires-clause-rises c =
-    back_rises 0 (together c.loop-rest.layers.light.items (all_of c.loop-rest.layers.chunks.items)) c.loop-rest.rest.now
+    back_rises 0 (joined_layers c.loop-rest.layers.light.items (all_of c.loop-rest.layers.chunks.items)) c.loop-rest.rest.now
     (subst (λ (hs : Collection). IsCollection hs) (sym c.loop-rest.invariant.1) c.requires.rises)
 
 pub put-requires-clause-next : goal.put-requires-clause-next
@@ -27,7 +27,7 @@ put-requires-clause-next c =
     let later = c.split_at.result.1.now in
     let some = c.run_len.ensures.some in
     let long = c.split_at.ensures.front_len in
-    run_after (together c.loop-rest.layers.light.items (all_of c.loop-rest.layers.chunks.items)) rest run later c.args.held.now
+    run_after (joined_layers c.loop-rest.layers.light.items (all_of c.loop-rest.layers.chunks.items)) rest run later c.args.held.now
     c.loop-rest.invariant.1
     (run_and_later rest run later c.run_len.result c.split_at.ensures.front c.split_at.ensures.back)
     c.requires.rises c.requires.within_limit c.loop-rest.invariant.2 (omega arith)
@@ -38,7 +38,7 @@ loop-rest-preserved c =
     let rest = c.loop-rest.rest.now in
     let run = c.split_at.result.0.now in
     let later = c.split_at.result.1.now in
-    let front = together c.loop-rest.layers.light.items (all_of c.loop-rest.layers.chunks.items) in
+    let front = joined_layers c.loop-rest.layers.light.items (all_of c.loop-rest.layers.chunks.items) in
     let parts = run_and_later rest run later c.run_len.result c.split_at.ensures.front c.split_at.ensures.back in
     let own : HaveLesserCells run later =
     subst (λ (x : Collection). HaveLesserCells x later) (sym c.split_at.ensures.front)

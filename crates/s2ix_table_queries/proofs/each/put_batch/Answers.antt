@@ -12,7 +12,7 @@ use Rattle.s2ix_table_queries.proofs.each.put_batch.Goals as goal
 pub returns-then-done-ends-clause-short : goal.returns-then-done-ends-clause-short
 returns-then-done-ends-clause-short g c = λ before.
     let i = c.loop-k.invariant in
-    let there = leaf_at c.args.leaves.now c.args.before.leaves c.args.batch.now.leaves c.args.batch.now.many c.loop-k.k c.loop-k.done.leaves
+    let there = leaf_at c.args.leaves.now c.args.before.leaves c.args.batch.now.leaves c.args.batch.now.count c.loop-k.k c.loop-k.done.leaves
     c.index-batch-k.result c.requires.batch c.loop-k-test.true (omega (arith, i.5, c.if-before-k.false)) c.index-batch-k.is in
     record {
       within = there.1;
@@ -23,13 +23,13 @@ returns-then-done-ends-clause-short g c = λ before.
 pub contents_near-contents-requires : goal.contents_near-contents-requires
 contents_near-contents-requires g c =
     let i = c.loop-k.invariant in
-    level_at c.args.leaves.now c.args.before.leaves c.args.batch.now.leaves c.args.batch.now.many c.loop-k.k c.loop-k.done.leaves
+    level_at c.args.leaves.now c.args.before.leaves c.args.batch.now.leaves c.args.batch.now.count c.loop-k.k c.loop-k.done.leaves
     c.index-batch-k.result c.requires.batch c.loop-k-test.true (omega (arith, i.5, c.if-before-k.false)) c.index-batch-k.is
 
 pub put_leaf-requires-clause-leaf : goal.put_leaf-requires-clause-leaf
 put_leaf-requires-clause-leaf g c =
     let i = c.loop-k.invariant in
-    level_at c.args.leaves.now c.args.before.leaves c.args.batch.now.leaves c.args.batch.now.many c.loop-k.k c.loop-k.done.leaves
+    level_at c.args.leaves.now c.args.before.leaves c.args.batch.now.leaves c.args.batch.now.count c.loop-k.k c.loop-k.done.leaves
     c.index-batch-k.result c.requires.batch c.loop-k-test.true (omega (arith, i.5, c.if-before-k.false)) c.index-batch-k.is
 
 pub returns-in_default-clause-short : goal.returns-in_default-clause-short
@@ -37,7 +37,7 @@ returns-in_default-clause-short g c = λ before.
     let held = g.T.RangeTable.pairs c.args.table.now in
     let leaf = c.index-batch-k.result in
     let i = c.loop-k.invariant in
-    let there = leaf_at c.args.leaves.now c.args.before.leaves c.args.batch.now.leaves c.args.batch.now.many c.loop-k.k c.loop-k.done.leaves leaf
+    let there = leaf_at c.args.leaves.now c.args.before.leaves c.args.batch.now.leaves c.args.batch.now.count c.loop-k.k c.loop-k.done.leaves leaf
     c.requires.batch c.loop-k-test.true (omega (arith, i.5, c.if-before-k.false)) c.index-batch-k.is in
     let short = subst (λ (l : CellId). length c.loop-k.out < c.loop-k.done.pairs + length (contents_at (raw_of l) held))
     (sym c.index-batch-k.is) (c.in_default.ensures.short refl) in
@@ -49,7 +49,7 @@ put_same-done-requires-clause-before g c =
     let held = g.T.RangeTable.pairs c.args.table.now in
     let leaf = c.index-batch-k.result in
     let i = c.loop-k.invariant in
-    let there = leaf_at c.args.leaves.now c.args.before.leaves c.args.batch.now.leaves c.args.batch.now.many c.loop-k.k c.loop-k.done.leaves leaf
+    let there = leaf_at c.args.leaves.now c.args.before.leaves c.args.batch.now.leaves c.args.batch.now.count c.loop-k.k c.loop-k.done.leaves leaf
     c.requires.batch c.loop-k-test.true (omega (arith, i.5, c.if-before-k.false)) c.index-batch-k.is in
     let end = subst (λ (l : CellId). c.in-Some.end ≡ c.loop-k.done.pairs + length (contents_at (raw_of l) held))
     (sym c.index-batch-k.is) c.in-Some.ensures.end in
@@ -64,7 +64,7 @@ put_same-done-requires-clause-count g c =
     let held = g.T.RangeTable.pairs c.args.table.now in
     let leaf = c.index-batch-k.result in
     let i = c.loop-k.invariant in
-    let there = leaf_at c.args.leaves.now c.args.before.leaves c.args.batch.now.leaves c.args.batch.now.many c.loop-k.k c.loop-k.done.leaves leaf
+    let there = leaf_at c.args.leaves.now c.args.before.leaves c.args.batch.now.leaves c.args.batch.now.count c.loop-k.k c.loop-k.done.leaves leaf
     c.requires.batch c.loop-k-test.true (omega (arith, i.5, c.if-before-k.false)) c.index-batch-k.is in
     let all = over_next c.args.leaves.now c.loop-k.done.leaves held leaf (contents_at (raw_of leaf) held) there.1 there.0 refl in
     let end = subst (λ (l : CellId). c.in-Some.end ≡ c.loop-k.done.pairs + length (contents_at (raw_of l) held))
@@ -74,7 +74,7 @@ put_same-done-requires-clause-count g c =
 pub put_same-done-requires-clause-over : goal.put_same-done-requires-clause-over
 put_same-done-requires-clause-over g c =
     let i = c.loop-k.invariant in
-    let level = level_at c.args.leaves.now c.args.before.leaves c.args.batch.now.leaves c.args.batch.now.many c.loop-k.k c.loop-k.done.leaves
+    let level = level_at c.args.leaves.now c.args.before.leaves c.args.batch.now.leaves c.args.batch.now.count c.loop-k.k c.loop-k.done.leaves
     c.index-batch-k.result c.requires.batch c.loop-k-test.true (omega (arith, i.5, c.if-before-k.false)) c.index-batch-k.is in
     over_each_leaf g.R.OfHeld.of (slice_index_or c.args.batch.now.leaves c.loop-k.k c.index-batch-k.result) c.contents_near-contents.ensures.contents level
     c.contents_near-contents.ensures.from c.contents_near-contents.ensures.limit c.loop-k.out c.put_leaf.new.out c.loop-k.done.pairs c.in-Some.end i.2

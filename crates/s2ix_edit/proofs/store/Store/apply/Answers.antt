@@ -71,7 +71,7 @@ whole_is c =
     (subst Does c.as_slice-3.ensures.value c.in_ok-whole.ensures)
 
 done_is : (c : After-clear) → c.append_reserved.new.to.items ≡ c.self.inside.done.items ++ c.args.changes.items
-done_is c = c.append_reserved.ensures ∙ ap (λ (ess : List (List Entry)). ess ++ c.args.changes.items) c.in_ok-make_room.ensures.stay
+done_is c = c.append_reserved.ensures ∙ ap (λ (ess : List (List Entry)). ess ++ c.args.changes.items) c.in_ok-make_room.ensures.unchanged
 
 some : (c : After-clear) → length c.args.changes.items ≡ 0 → ⊥
 some c =
@@ -88,7 +88,7 @@ accepted c =
     let Taken : List (List Entry) → Type 0 = λ ess. replay_refusal c.self.inside.bag ess ≡ None in
     taken_whole (record_refusal (changes_limit c.self.inside.bag.limits - length c.self.inside.done.items) c.args.changes.items)
     (replay_refusal c.self.inside.bag c.args.changes.items)
-    (ap₂ record_refusal (sym room) (sym c.as_slice.ensures.value) ∙ c.in_ok-test_recordable.ensures.taken)
+    (ap₂ record_refusal (sym room) (sym c.as_slice.ensures.value) ∙ c.in_ok-test_recordable.ensures.accepted)
     (subst Taken c.as_slice-2.ensures.value c.in_ok-bag.ensures.accepted)
 
 pub invariant_of-self-2 : goal.invariant_of-self-2

@@ -7,8 +7,8 @@ use Rattle.s2ix_edit.proofs.store.Store.done.Goals as goal
 pub returns-clause-done : goal.returns-clause-done
 returns-clause-done c = search rules
 
-pub returns-clause-stands : goal.returns-clause-stands
-returns-clause-stands c = search rules
+pub returns-clause-store : goal.returns-clause-store
+returns-clause-store c = search rules
 
 pub returns-clause-led : goal.returns-clause-led
 returns-clause-led c =

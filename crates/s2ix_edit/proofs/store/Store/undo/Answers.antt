@@ -16,7 +16,7 @@ shifted : (c : After-shift_last-number)
 shifted c =
     subst (λ (es : List (List Entry)). IsShifted c.self.inside.done.items es c.shift_last-number.new.from.items c.shift_last-number.new.to.items
     c.shift_last-number.result)
-    c.in_ok-make_room.ensures.stay c.shift_last-number.ensures
+    c.in_ok-make_room.ensures.unchanged c.shift_last-number.ensures
 
 -- the store inside, with its last change taken back
 takes_back : (c : After-shift_last-number) → Undoes

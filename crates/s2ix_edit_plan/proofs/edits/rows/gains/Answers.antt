@@ -32,21 +32,21 @@ least c =
     subst Least (left c)
     (rest_copies c.args.rows.now c.in-Some.rest.now c.in-Some.first.now c.loop-row.row-index k c.in-Some.ensures.cases.0)
 
-pub returns-in_default-checked_add-clause-above : goal.returns-in_default-checked_add-clause-above
-returns-in_default-checked_add-clause-above c =
-    let a = (goal.at-returns-in_default-checked_add-clause-above c).After-is_same in
+pub returns-in_default-checked_add-clause-refused : goal.returns-in_default-checked_add-clause-refused
+returns-in_default-checked_add-clause-refused c =
+    let a = (goal.at-returns-in_default-checked_add-clause-refused c).After-is_same in
     let same : rank_of c.row-item.result.pair ≡ rank_of c.loop-row.pending.pair = search rules in
     sum_error c.args.bag.now.held c.loop-row.pending c.row-item.result (drop (c.loop-row.row-index + 1) c.in-Some.rest.now) c.args.rows.now
     same (walks a).1
     (omega (arith, c.in_default-checked_add.ensures))
 
-pub returns-in_err-push_gain-clause-above : goal.returns-in_err-push_gain-clause-above
-returns-in_err-push_gain-clause-above c =
-    let a = (goal.at-returns-in_err-push_gain-clause-above c).After-is_same in
+pub returns-in_err-push_gain-clause-refused : goal.returns-in_err-push_gain-clause-refused
+returns-in_err-push_gain-clause-refused c =
+    let a = (goal.at-returns-in_err-push_gain-clause-refused c).After-is_same in
     let p = err_from_is_err_and c.from_residual.result c.from_residual.ensures.1 in
     rw (p.1, p.2)
     (pending_error c.args.bag.now.held c.loop-row.pending c.args.rows.now c.in_err-push_gain.field-0.0 (omega (arith, (walks a).1))
-    c.in_err-push_gain.ensures.above)
+    c.in_err-push_gain.ensures.refused)
 
 pub loop-row-preserved : goal.loop-row-preserved
 loop-row-preserved c =
@@ -74,9 +74,9 @@ loop-row-preserved c =
           (walks_other hs rows c.loop-row.entries.items c.loop-row.pending next rest differs (least a) (walks a)))
     ]
 
-pub returns-in_err-push_gain-2-clause-above : goal.returns-in_err-push_gain-2-clause-above
-returns-in_err-push_gain-2-clause-above c =
+pub returns-in_err-push_gain-2-clause-refused : goal.returns-in_err-push_gain-2-clause-refused
+returns-in_err-push_gain-2-clause-refused c =
     let p = err_from_is_err_and c.from_residual-in_err-push_gain-2.result c.from_residual-in_err-push_gain-2.ensures.1 in
     rw (p.1, p.2)
     (pending_error c.args.bag.now.held c.loop-row.pending c.args.rows.now c.in_err-push_gain-2.field-0.0 (omega (arith, c.loop-row.invariant.1))
-    c.in_err-push_gain-2.ensures.above)
+    c.in_err-push_gain-2.ensures.refused)

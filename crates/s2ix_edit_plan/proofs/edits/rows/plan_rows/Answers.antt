@@ -20,7 +20,7 @@ returns-then-have_no_copies-clause-plan c =
 error : (c : In_err-entries) → IsRowsError c.args.bag.now.held c.in_ok-sorted.sorted.items c.in_err-entries.field-0.0
 error c =
     let Failed : List Held → Type 0 = λ rows. IsRowsError c.args.bag.now.held rows c.in_err-entries.field-0.0 in
-    subst Failed c.as_slice.ensures.value c.in_err-entries.ensures.above
+    subst Failed c.as_slice.ensures.value c.in_err-entries.ensures.refused
 
 pub returns-in_err-entries-clause-copies : goal.returns-in_err-entries-clause-copies
 returns-in_err-entries-clause-copies c =

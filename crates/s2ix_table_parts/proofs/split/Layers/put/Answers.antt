@@ -2,7 +2,7 @@
 use Rattle.std.proofs.Common.{sym, ap, ◌∙◌, subst}
 use Rattle.s2ix_bag_lists.specs.Faces.{all_of}
 use Rattle.s2ix_bag_pairs.specs.Collection.{Collection}
-use Rattle.s2ix_table_parts.specs.Layers.{together}
+use Rattle.s2ix_table_parts.specs.Layers.{joined_layers}
 use Rattle.s2ix_table_parts.specs.Split.{AreSplit}
 use Rattle.s2ix_table_parts.proofs.Splitting.{heavy_few, heavy_rises, put_heavy, put_light}
 use Rattle.s2ix_table_parts.proofs.split.Layers.put.Goals as goal
@@ -32,5 +32,5 @@ returns-in_ok-extend_from_slice-clause-split c =
 
 pub returns-in_ok-extend_from_slice-clause-pairs : goal.returns-in_ok-extend_from_slice-clause-pairs
 returns-in_ok-extend_from_slice-clause-pairs c =
-    ap (λ (hs : Collection). together hs (all_of c.args.self.now.chunks.items)) c.in_ok-extend_from_slice.ensures.items
+    ap (λ (hs : Collection). joined_layers hs (all_of c.args.self.now.chunks.items)) c.in_ok-extend_from_slice.ensures.items
     ∙ (put_light c.args.self.now.light.items c.args.run.now c.args.self.now.chunks.items c.requires.split c.requires.next).1

@@ -14,13 +14,13 @@ use Rattle.s2ix_table_spans.proofs.splice.Before.spliced.Goals as goal
 part_is : (start n : ℕ) → start + n - start ≡ n
 part_is start n = omega arith
 
-pub over-requires-clause-rises : goal.over-requires-clause-rises
-over-requires-clause-rises c =
+pub with_room-requires-clause-rises : goal.with_room-requires-clause-rises
+with_room-requires-clause-rises c =
     let b = c.args.block in
     collection_take _ 0 (drop b.start c.args.next.now) (collection_drop b.start 0 c.args.next.now c.requires.rises)
 
-pub over-requires-clause-span : goal.over-requires-clause-span
-over-requires-clause-span c =
+pub with_room-requires-clause-span : goal.with_room-requires-clause-span
+with_room-requires-clause-span c =
     let b = c.args.block in
     let next = c.args.next.now in
     let own =

@@ -1,7 +1,0 @@
-use Rattle.s2ix_table_spans.proofs.Tables.{nodes_of_pass}
-use Rattle.s2ix_table_spans.proofs.nodes.Nodes.over.Goals as goal
-
-pub returns : goal.returns
-returns c =
-    nodes_of_pass c.args.pairs.now c.args.from c.args.to c.in_ok-pass.pass c.trim-starts.result.items c.trim-firsts.result.items c.requires.rises
-    c.requires.within_limit c.requires.span c.in_ok-pass.ensures c.trim-starts.ensures c.trim-firsts.ensures
