@@ -300,7 +300,7 @@ The last four rows are by the clock, the best of nine calls. The figures in brac
 
 S2 has neither. Each edit is one call of the library for C, on a store that can undo it. A figure is the median of 50 calls or more, with the
 most in brackets; one without brackets is a mean. Pairs are taken away and put back in turns. 50 cells of one town get a label of their own,
-which is renamed, grows and goes. Before a *cold* copy 64 MB of other memory are written. Points are asked before and after 800,000 random
+which is renamed, grows and goes. `set_label` redraws such a zone, half of it where it was, as one change. Before a *cold* copy 64 MB of other memory are written. Points are asked before and after 800,000 random
 edits.
 
 ## Single cells and unions

@@ -1,5 +1,6 @@
-// A bench of what S2 doesn't have, over the library for C: edits PAIRS CHANGES. A line for each figure: its name, and the nanoseconds of the
-// processor for one operation, the median of many and the most, or a mean alone. After CHANGES random edits points are asked again.
+// A bench of what S2 doesn't have, over the library for C, and once through the header for C++: edits PAIRS CHANGES. A line for each figure: its
+// name, and the nanoseconds of the processor for one operation, the median of many and the most, or a mean alone. After CHANGES random edits
+// points are asked again.
 #include <s2ix.h>
 #include <time.h>
 
@@ -20,6 +21,9 @@
 
 #include "s2/s2cell_id.h"
 #include "scene.h"
+
+// (after S2's headers, as s2ix.hpp says)
+#include <s2ix.hpp>
 
 namespace {
 
@@ -166,6 +170,18 @@ void TimeRegions(Store& store, const Scene& scene) {
   undos.Print("undo of that");
   redos.Print("redo of that");
   drops.Print("drop of that label");
+}
+
+// A zone of 50 cells in one town that is drawn anew there, half of it where it was: one change for each time.
+void TimeRedraws(const std::vector<s2ix_row>& rows, const Scene& scene) {
+  s2ix::Index zones;
+  zones.add_all(rows);
+  auto shape = [&](size_t first) { return std::vector<uint64_t>(scene.many.begin() + first, scene.many.begin() + first + 50); };
+  const std::array<std::vector<uint64_t>, 2> shapes = {shape(0), shape(25)};
+  zones.set_label(kOwnLabel, shapes[1]);
+  Timed redraws;
+  for (size_t k = 0; k < kTurns / 4; ++k) redraws.Run([&] { zones.set_label(kOwnLabel, shapes[k % 2]); });
+  redraws.Print("set_label of C++, with 50 cells there");
 }
 
 // Copies of a store after edits in many places, when other memory has come into the caches.
@@ -328,6 +344,7 @@ int main(int count, char** words) {
   store.Forget();
   TimeEdits(store, rows, "an edit");
   TimeRegions(store, scene);
+  TimeRedraws(rows, scene);
   TimeCopies(store, rows);
   TimeReaders(store, rows, scene.leaves);
   TimeChanges(store, rows, scene.leaves, std::strtoul(words[2], nullptr, 10));
