@@ -5,8 +5,9 @@
 //! only the collection. A refused step leaves the store as it was. The store keeps the range table of its collection
 //! beside it, for queries.
 //!
-//! Bag and table are kept in parts of some hundred pairs. A step makes anew only the parts that it changes, and copies a short list of all of
-//! them. A copy of a store shares bag and table, until one of the two takes a step. A store drops no change by itself: when the number of
+//! Bag and table are kept in parts of some hundred pairs. A step makes anew only the parts that it changes, and writes a number or two for
+//! each part of their faces. A copy of a store shares bag and table, until one of the two takes a step: this step then makes lists of its own
+//! of all parts. A store drops no change by itself: when the number of
 //! changes that can be undone reaches the limit, edits are refused until some are undone, joined or forgotten.
 #![tactic(auto)]
 

@@ -496,7 +496,7 @@ impl Store {
     }
 
     /// The region of a label: the normal union of the cells that are held with it, which is empty if none is. `OutOfMemory` if a growth is
-    /// refused. O(n + m log m) for n pairs held, m of them with the label.
+    /// refused. O(m log m) for m pairs with the label, besides what [`Bag::of_label`] takes to find them.
     pub fn region(&self, label: Label) -> Result<CellUnion, OutOfMemory>
         ensures region { IfOk result (λ union.
             HaveSameRegion union (cells_of label self.now.bag.held)) }

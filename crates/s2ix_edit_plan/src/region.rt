@@ -11,7 +11,7 @@ use s2ix_bag_pairs::{Held, Label};
 use std::alloc::Global;
 
 /// The region of a label: the normal union of the cells that a bag holds with it, which is empty if it holds none. `OutOfMemory` if a
-/// growth is refused. O(n + m log m) for n pairs held, m of them with the label.
+/// growth is refused. O(m log m) for m pairs with the label, besides what [`Bag::of_label`] takes to find them.
 pub fn region_of(alloc: Global, bag: &Bag, label: Label) -> Result<CellUnion, OutOfMemory>
     ensures region { IfOk result (λ union. HaveSameRegion union (cells_of label bag.now.held)) }
     ensures form { IfOk result (λ union. union ≡ region_in label bag.now.held) }
@@ -21,7 +21,7 @@ pub fn region_of(alloc: Global, bag: &Bag, label: Label) -> Result<CellUnion, Ou
     CellUnion::normalise(alloc, cells.as_slice())
 }
 
-// The cells that are held with a label, in rising order. O(n) for n pairs held with any label.
+// The cells that are held with a label, in rising order. It takes as long as `Bag::of_label` does.
 pub(crate) fn label_cells(
     alloc: Global,
     bag: &Bag,

@@ -296,7 +296,7 @@ fn refused_questions_of_labels(rt: HostRuntime) {
     check_seen(&rt, &store, &GROWN);
 }
 
-// A forget before it takes no memory: `tests/hostile` looks that this test asks for as many growths as the one above.
+// A forget before it takes no memory: `tests/hostile` looks that this test asks for as many growths as `refused_regions`.
 #[test]
 fn refused_regions_after_a_forget(rt: HostRuntime) {
     let mut store = grown(&rt, rt.alloc());
