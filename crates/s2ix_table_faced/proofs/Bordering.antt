@@ -22,9 +22,9 @@ length_parts from (t ∷ ts) to are =
     let rest = length_parts t.to ts to are.2 in
     omega arith
 
-pub parts_begin : {parts : List SpanRanges} {heavy : Collection} {starts : List ℕ} {offsets : List Offset} {faces : List ℕ} {count : ℕ}
-    → AreJoined parts heavy starts offsets faces count → AreBorders (joined_ranges (covered heavy parts)) (places_of offsets)
-parts_begin {parts} {heavy} {starts} {offsets} {faces} {count} are =
+pub parts_begin : {parts : List SpanRanges} {heavy : Collection} {starts : List ℕ} {offsets : List Offset} {count : ℕ}
+    → AreJoined parts heavy starts offsets count → AreBorders (joined_ranges (covered heavy parts)) (places_of offsets)
+parts_begin {parts} {heavy} {starts} {offsets} {count} are =
     let many = many_places are in
     let short = length_parts 1 parts leaf_end are.neighbours in
     record {
@@ -42,8 +42,8 @@ parts_begin {parts} {heavy} {starts} {offsets} {faces} {count} are =
           omega arith;
     }
 
-pub part_begins : {parts : List SpanRanges} {heavy : Collection} {starts : List ℕ} {offsets : List Offset} {faces : List ℕ} {count : ℕ} (part : ℕ)
-    → AreJoined parts heavy starts offsets faces count → part < length parts
+pub part_begins : {parts : List SpanRanges} {heavy : Collection} {starts : List ℕ} {offsets : List Offset} {count : ℕ} (part : ℕ)
+    → AreJoined parts heavy starts offsets count → part < length parts
     → (range_at (joined_ranges (covered heavy parts)) (slice_index_or (places_of offsets) part 0)).start ≡ (get_or offsets part no_offset).start
-part_begins {parts} {heavy} {starts} {offsets} {faces} {count} part are lt =
+part_begins {parts} {heavy} {starts} {offsets} {count} part are lt =
     ap (λ k. (range_at (joined_ranges (covered heavy parts)) k).start) (place_of part 0 are lt) ∙ (placed part no_table no_offset are lt).start

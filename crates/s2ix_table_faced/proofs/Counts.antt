@@ -24,12 +24,12 @@ pub record IsInner (parts : List SpanRanges) (offsets : List Offset) (k part pas
   pub next : HasRange parts part (past + 1 + 1)
   pub place : place_on offsets part (past + 1) ≡ k
 
-pub inner_near : {parts : List SpanRanges} {heavy : Collection} {starts : List ℕ} {offsets : List Offset} {faces : List ℕ} {count : ℕ} (k part past many : ℕ) (o : Offset)
-    → AreJoined parts heavy starts offsets faces count → part < length parts → many ≡ length (table_of parts part).ranges
+pub inner_near : {parts : List SpanRanges} {heavy : Collection} {starts : List ℕ} {offsets : List Offset} {count : ℕ} (k part past many : ℕ) (o : Offset)
+    → AreJoined parts heavy starts offsets count → part < length parts → many ≡ length (table_of parts part).ranges
     → o ≡ get_or offsets part no_offset → k < 18446744073709551616
     → past ≡ (k + (18446744073709551616 - (o.place + 1))) % 18446744073709551616 → past < many - 2
     → IsInner parts offsets k part past
-inner_near {parts} {heavy} {starts} {offsets} {faces} {count} k part past many o are lt ranges read fits is less =
+inner_near {parts} {heavy} {starts} {offsets} {count} k part past many o are lt ranges read fits is less =
     let within_limit = ends_few part are lt in
     let at = ap (λ (x : Offset). x.place) read in
     let place = place_of part 0 are lt in
@@ -44,10 +44,10 @@ pub record IsOwnOf (parts : List SpanRanges) (offsets : List Offset) (count k pa
   pub has : HasOwn offsets count part own
   pub place : place_on offsets part own ≡ k
 
-pub own_of : {parts : List SpanRanges} {heavy : Collection} {starts : List ℕ} {offsets : List Offset} {faces : List ℕ} {count : ℕ} (k part : ℕ)
-    → AreJoined parts heavy starts offsets faces count → IsLastStart (places_of offsets) k part → k < count
+pub own_of : {parts : List SpanRanges} {heavy : Collection} {starts : List ℕ} {offsets : List Offset} {count : ℕ} (k part : ℕ)
+    → AreJoined parts heavy starts offsets count → IsLastStart (places_of offsets) k part → k < count
     → IsOwnOf parts offsets count k part (k - (get_or offsets part no_offset).place)
-own_of {parts} {heavy} {starts} {offsets} {faces} {count} k part are last within =
+own_of {parts} {heavy} {starts} {offsets} {count} k part are last within =
     let many = many_places are in
     let listed = last.within in
     let at = among k part are last within in
@@ -61,13 +61,13 @@ own_of {parts} {heavy} {starts} {offsets} {faces} {count} k part are last within
       place = place;
     }
 
-pub last_listed : {parts : List SpanRanges} {heavy : Collection} {starts : List ℕ} {offsets : List Offset} {faces : List ℕ} {count : ℕ} {k : ℕ} (part : ℕ) → AreJoined parts heavy starts offsets faces count → IsLastStart (places_of offsets) k part → part < length parts
-last_listed {parts} {heavy} {starts} {offsets} {faces} {count} part are last = let listed = last.within in let many = many_places are in omega arith
+pub last_listed : {parts : List SpanRanges} {heavy : Collection} {starts : List ℕ} {offsets : List Offset} {count : ℕ} {k : ℕ} (part : ℕ) → AreJoined parts heavy starts offsets count → IsLastStart (places_of offsets) k part → part < length parts
+last_listed {parts} {heavy} {starts} {offsets} {count} part are last = let listed = last.within in let many = many_places are in omega arith
 
 -- for a range all offsets are searched: that of the first part is not after it
-pub all_offsets : {parts : List SpanRanges} {heavy : Collection} {starts : List ℕ} {offsets : List Offset} {faces : List ℕ} {count : ℕ} (k : ℕ)
-    → AreJoined parts heavy starts offsets faces count → IsAmong (places_of offsets) k 0 (length offsets)
-all_offsets {parts} {heavy} {starts} {offsets} {faces} {count} k are =
+pub all_offsets : {parts : List SpanRanges} {heavy : Collection} {starts : List ℕ} {offsets : List Offset} {count : ℕ} (k : ℕ)
+    → AreJoined parts heavy starts offsets count → IsAmong (places_of offsets) k 0 (length offsets)
+all_offsets {parts} {heavy} {starts} {offsets} {count} k are =
     let some = some_parts parts are.neighbours in
     let many = many_offsets are in
     let places = many_places are in

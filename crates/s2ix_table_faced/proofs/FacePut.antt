@@ -10,7 +10,7 @@ use Rattle.s2ix_table_heavy.specs.Chunks.{AreChunks}
 use Rattle.s2ix_table_heavy.specs.declared.heavy_place.HeavyPlace.{HeavyPlace}
 use Rattle.s2ix_table_faced.specs.declared.offset.Offset.{Offset}
 use Rattle.s2ix_table_faced.specs.Faces.{has_entry_on, held_on}
-use Rattle.s2ix_table_faced.specs.FirstParts.{of_face, parts_of_face}
+use Rattle.s2ix_table_faced.specs.FirstParts.{AreFirstParts, of_face, parts_of_face}
 use Rattle.s2ix_table_parts.specs.Neighbours.{held_in}
 use Rattle.s2ix_table_faced.specs.Layout.{AreLayered, chunks_on, heavy_in}
 use Rattle.s2ix_table_parts.specs.Layered.{IsFaceLayered, IsFaceWith}
@@ -25,10 +25,10 @@ use Rattle.s2ix_table_faced.proofs.Unchanged.{unchanged_stay}
 
 -- what gives way of a face lies among all parts
 pub face_end : {parts : List SpanRanges} {heavy : Collection} {starts : List ℕ} {offsets : List Offset} {faces : List ℕ} {count : ℕ} (face end : ℕ)
-    → AreJoined parts heavy starts offsets faces count → face < 6 → end ≤ length (parts_of_face parts faces face)
+    → AreJoined parts heavy starts offsets count → AreFirstParts starts faces → face < 6 → end ≤ length (parts_of_face parts faces face)
     → first_of_face faces face + end ≤ length parts
-face_end {parts} {heavy} {starts} {offsets} {faces} {count} face end joined lt within =
-    let own = face_parts face joined lt in
+face_end {parts} {heavy} {starts} {offsets} {faces} {count} face end joined firsts lt within =
+    let own = face_parts face joined firsts lt in
     let rise = own.rise in
     let by = own.within in
     let long = between_length (first_of_face faces face) (first_of_face faces (face + 1)) parts in
@@ -36,7 +36,7 @@ face_end {parts} {heavy} {starts} {offsets} {faces} {count} face end joined lt w
 
 pub face_put_in : {parts : List SpanRanges} {heavy : List (List Collection)} {heavy_places : List (Option HeavyPlace)} {starts : List ℕ} {offsets : List Offset}
     {faces : List ℕ} {count : ℕ} (change : List Entry) (face first end : ℕ) (made : List SpanRanges) (made_heavy_places : List (Option HeavyPlace)) (chunks : List Collection)
-    → AreJoined parts (heavy_in heavy) starts offsets faces count → AreLayered heavy parts heavy_places
+    → AreJoined parts (heavy_in heavy) starts offsets count → AreFirstParts starts faces → AreLayered heavy parts heavy_places
     → ((f : ℕ) → f < 6 → AreChunks (chunks_on heavy f)) → face < 6
     → ((other : ℕ) → other < 6 → other ≢ face → has_entry_on change other ≡ false)
     → IsCollection (changed (joined_layers (held_in parts) (heavy_in heavy)) change) → length (changed (joined_layers (held_in parts) (heavy_in heavy)) change) ≤ 1000000
@@ -45,16 +45,16 @@ pub face_put_in : {parts : List SpanRanges} {heavy : List (List Collection)} {he
     → AreAllMade (changed (joined_layers (held_in parts) (heavy_in heavy)) change) (set heavy face chunks)
     (with_parts parts (first_of_face faces face + first) (first_of_face faces face + end) made)
     (take (first_of_face faces face + first) heavy_places ++ (made_heavy_places ++ drop (first_of_face faces face + end) heavy_places))
-face_put_in {parts} {heavy} {heavy_places} {starts} {offsets} {faces} {count} change face first end made made_heavy_places chunks joined layered are six only rises within_limit new =
+face_put_in {parts} {heavy} {heavy_places} {starts} {offsets} {faces} {count} change face first end made made_heavy_places chunks joined firsts layered are six only rises within_limit new =
     let old = joined_layers (held_in parts) (heavy_in heavy) in
     let hs = changed old change in
     let now = set heavy face chunks in
     let many = layered.six in
     let there : chunks_on now face ≡ chunks = get_or-set_same heavy face chunks [] (omega arith) in
-    let own = face_parts face joined six in
+    let own = face_parts face joined firsts six in
     let within = new.within in
     let long = between_length (first_of_face faces face) (first_of_face faces (face + 1)) parts in
-    one_face_put old hs heavy now parts made heavy_places made_heavy_places faces face first end (faces_of_table joined layered are)
+    one_face_put old hs heavy now parts made heavy_places made_heavy_places faces face first end (faces_of_table joined firsts layered are)
     (record {
       stay = λ n lt ne. sym (unchanged_stay old change n (only n lt ne));
       heavy_stay = λ n lt ne. get_or-set_other heavy face n chunks [] ne;

@@ -11,10 +11,11 @@ use Rattle.s2ix_table_spans.specs.Starts.{IsAmong, IsLastStart}
 use Rattle.s2ix_table_faced.specs.declared.offset.Offset.{Offset}
 use Rattle.s2ix_table_parts.specs.FaceSpans.{face_begin, no_table, table_of}
 use Rattle.s2ix_table_faced.specs.Faces.{held_on}
+use Rattle.s2ix_table_faced.specs.FirstParts.{AreFirstParts}
 use Rattle.s2ix_table_parts.specs.Neighbours.{held_in, AreNeighbours}
 use Rattle.s2ix_bag_pairs.specs.Collection.{Collection}
 use Rattle.s2ix_table_faced.specs.Whole.{AreJoined}
-use Rattle.s2ix_table_parts.proofs.Cuts.{cut, cut_is, cut_to, cut_end, cut_rises, between, starts_rise}
+use Rattle.s2ix_table_parts.proofs.Cuts.{cut, cut_is, cut_to, cut_end, cut_rises, between}
 use Rattle.s2ix_table_parts.proofs.InSpans.{raw_on_face}
 use Rattle.s2ix_table_faced.proofs.OnFaces.{held_between}
 
@@ -48,41 +49,41 @@ start_found starts leaf k rises c last =
 abbrev pub first_of_face : List ℕ → ℕ → ℕ
 first_of_face faces face = slice_index_or faces face 0
 
-pub start_of : {parts : List SpanRanges} {heavy : Collection} {starts : List ℕ} {offsets : List Offset} {faces : List ℕ} {count : ℕ} (i : ℕ)
-    → AreJoined parts heavy starts offsets faces count → i < length parts → slice_index_or starts i 0 ≡ cut i 1 parts
-start_of {parts} {heavy} {starts} {offsets} {faces} {count} i are lt =
+pub start_of : {parts : List SpanRanges} {heavy : Collection} {starts : List ℕ} {offsets : List Offset} {count : ℕ} (i : ℕ)
+    → AreJoined parts heavy starts offsets count → i < length parts → slice_index_or starts i 0 ≡ cut i 1 parts
+start_of {parts} {heavy} {starts} {offsets} {count} i are lt =
     ap (λ ns. slice_index_or ns i 0) are.starts_are
     ∙ get_or-map (λ (t : SpanRanges). t.from) parts i no_table 0 lt
     ∙ cut_is i 1 parts leaf_end no_table are.neighbours lt
 
-pub length_starts : {parts : List SpanRanges} {heavy : Collection} {starts : List ℕ} {offsets : List Offset} {faces : List ℕ} {count : ℕ}
-    → AreJoined parts heavy starts offsets faces count → length starts ≡ length parts
-length_starts {parts} {heavy} {starts} {offsets} {faces} {count} are = ap length are.starts_are ∙ length-map parts (λ (t : SpanRanges). t.from)
+pub length_starts : {parts : List SpanRanges} {heavy : Collection} {starts : List ℕ} {offsets : List Offset} {count : ℕ}
+    → AreJoined parts heavy starts offsets count → length starts ≡ length parts
+length_starts {parts} {heavy} {starts} {offsets} {count} are = ap length are.starts_are ∙ length-map parts (λ (t : SpanRanges). t.from)
 
 -- a face begins where its first part does
 pub face_cut : {parts : List SpanRanges} {heavy : Collection} {starts : List ℕ} {offsets : List Offset} {faces : List ℕ} {count : ℕ} (face : ℕ)
-    → AreJoined parts heavy starts offsets faces count → face ≤ 6
+    → AreJoined parts heavy starts offsets count → AreFirstParts starts faces → face ≤ 6
     → (first_of_face faces face ≤ length parts) × (cut (first_of_face faces face) 1 parts ≡ face_begin face)
-face_cut {parts} {heavy} {starts} {offsets} {faces} {count} face are le =
+face_cut {parts} {heavy} {starts} {offsets} {faces} {count} face are firsts le =
     let many = length_starts are in
     elim (cases_lt face 6) [
       | inl lt ↦
-          (let listed = are.faces_are.listed face lt in
-          let begins = are.faces_are.begins face lt in
+          (let listed = firsts.listed face lt in
+          let begins = firsts.begins face lt in
           let start = start_of (first_of_face faces face) are (omega arith) in
           (omega arith, sym start ∙ begins))
       | inr past ↦
           (let e : face ≡ 6 = omega arith in
-          let all = ap (first_of_face faces) e ∙ are.faces_are.end ∙ many in
+          let all = ap (first_of_face faces) e ∙ firsts.end ∙ many in
           (omega (arith, all), cut_end (first_of_face faces face) 1 parts leaf_end are.neighbours all ∙ ap face_begin (sym e)))
     ]
 
 -- each face has a part
 pub faces_rise : {parts : List SpanRanges} {heavy : Collection} {starts : List ℕ} {offsets : List Offset} {faces : List ℕ} {count : ℕ} (face : ℕ)
-    → AreJoined parts heavy starts offsets faces count → face < 6 → first_of_face faces face < first_of_face faces (face + 1)
-faces_rise {parts} {heavy} {starts} {offsets} {faces} {count} face are lt =
-    let one = face_cut face are (omega arith) in
-    let next = face_cut (face + 1) are (omega arith) in
+    → AreJoined parts heavy starts offsets count → AreFirstParts starts faces → face < 6 → first_of_face faces face < first_of_face faces (face + 1)
+faces_rise {parts} {heavy} {starts} {offsets} {faces} {count} face are firsts lt =
+    let one = face_cut face are firsts (omega arith) in
+    let next = face_cut (face + 1) are firsts (omega arith) in
     elim (cases_lt (first_of_face faces face) (first_of_face faces (face + 1))) [
       | inl less ↦ less
       | inr le ↦
@@ -90,18 +91,12 @@ faces_rise {parts} {heavy} {starts} {offsets} {faces} {count} face are lt =
           absurd (omega (arith, one.1, next.1)))
     ]
 
--- parts begin one after the other
-pub rising_starts : {parts : List SpanRanges} {heavy : Collection} {starts : List ℕ} {offsets : List Offset} {faces : List ℕ} {count : ℕ}
-    → AreJoined parts heavy starts offsets faces count → AllPairs (λ a b. a < b) starts
-rising_starts {parts} are =
-    subst (λ (ns : List ℕ). AllPairs (λ a b. a < b) ns) (sym are.starts_are) (starts_rise 1 parts leaf_end are.neighbours)
-
 -- a part ends where the next one begins, and the last one with the last leaf
-pub end_of : {parts : List SpanRanges} {heavy : Collection} {starts : List ℕ} {offsets : List Offset} {faces : List ℕ} {count : ℕ} (part : ℕ)
-    → AreJoined parts heavy starts offsets faces count → part < length parts
+pub end_of : {parts : List SpanRanges} {heavy : Collection} {starts : List ℕ} {offsets : List Offset} {count : ℕ} (part : ℕ)
+    → AreJoined parts heavy starts offsets count → part < length parts
     → (part + 1 < length parts → slice_index_or starts (part + 1) 0 ≡ (table_of parts part).to)
     × (part + 1 ≡ length parts → leaf_end ≡ (table_of parts part).to)
-end_of {parts} {heavy} {starts} {offsets} {faces} {count} part are lt =
+end_of {parts} {heavy} {starts} {offsets} {count} part are lt =
     let to = cut_to part 1 parts leaf_end no_table are.neighbours lt in
     let same = ap (λ n. cut n 1 parts) (let e : part + 1 ≡ suc part = omega arith in e) in (
       λ less. let start = start_of (part + 1) are less in omega arith,
@@ -109,10 +104,10 @@ end_of {parts} {heavy} {starts} {offsets} {faces} {count} part are lt =
     )
 
 -- the last of some parts that have a leaf among them ends after it
-pub leaf_before_end : {parts : List SpanRanges} {heavy : Collection} {starts : List ℕ} {offsets : List Offset} {faces : List ℕ} {count : ℕ} (leaf first size last : ℕ)
-    → AreJoined parts heavy starts offsets faces count → IsAmong starts leaf first size → leaf < leaf_end → last + 1 ≡ first + size
+pub leaf_before_end : {parts : List SpanRanges} {heavy : Collection} {starts : List ℕ} {offsets : List Offset} {count : ℕ} (leaf first size last : ℕ)
+    → AreJoined parts heavy starts offsets count → IsAmong starts leaf first size → leaf < leaf_end → last + 1 ≡ first + size
     → leaf < (table_of parts last).to
-leaf_before_end {parts} {heavy} {starts} {offsets} {faces} {count} leaf first size last are among lt is =
+leaf_before_end {parts} {heavy} {starts} {offsets} {count} leaf first size last are among lt is =
     let many = length_starts are in
     let within = among.within in
     let ends = end_of last are (omega arith) in
@@ -130,9 +125,9 @@ pub record HasLeaf (span : SpanRanges) (leaf : ℕ) : Type 0 where
   pub from : span.from ≤ leaf
   pub to : leaf < span.to
 
-pub leaf_in : {parts : List SpanRanges} {heavy : Collection} {starts : List ℕ} {offsets : List Offset} {faces : List ℕ} {count : ℕ} (leaf : CellId) (part : ℕ)
-    → AreJoined parts heavy starts offsets faces count → IsLastStart starts (raw_of leaf) part → HasLeaf (table_of parts part) (raw_of leaf)
-leaf_in {parts} {heavy} {starts} {offsets} {faces} {count} leaf part are last =
+pub leaf_in : {parts : List SpanRanges} {heavy : Collection} {starts : List ℕ} {offsets : List Offset} {count : ℕ} (leaf : CellId) (part : ℕ)
+    → AreJoined parts heavy starts offsets count → IsLastStart starts (raw_of leaf) part → HasLeaf (table_of parts part) (raw_of leaf)
+leaf_in {parts} {heavy} {starts} {offsets} {count} leaf part are last =
     let many = length_starts are in
     let listed = last.within in
     let by = last.by in
@@ -161,12 +156,12 @@ pub record FaceParts (parts own : List SpanRanges) (faces : List ℕ) (face : �
   pub pairs : held_in own ≡ held_on face (held_in parts)
 
 pub face_parts : {parts : List SpanRanges} {heavy : Collection} {starts : List ℕ} {offsets : List Offset} {faces : List ℕ} {count : ℕ} (face : ℕ)
-    → AreJoined parts heavy starts offsets faces count → face < 6
+    → AreJoined parts heavy starts offsets count → AreFirstParts starts faces → face < 6
     → FaceParts parts (take (first_of_face faces (face + 1) - first_of_face faces face) (drop (first_of_face faces face) parts)) faces face
-face_parts {parts} {heavy} {starts} {offsets} {faces} {count} face are lt =
-    let rises = faces_rise face are lt in
-    let one = face_cut face are (omega arith) in
-    let next = face_cut (face + 1) are (omega arith) in
+face_parts {parts} {heavy} {starts} {offsets} {faces} {count} face are firsts lt =
+    let rises = faces_rise face are firsts lt in
+    let one = face_cut face are firsts (omega arith) in
+    let next = face_cut (face + 1) are firsts (omega arith) in
     let first = first_of_face faces face in
     let n : ℕ = first_of_face faces (face + 1) - first in
     let end : first_of_face faces (face + 1) ≡ first + n = omega arith in

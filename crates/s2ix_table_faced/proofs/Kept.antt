@@ -10,7 +10,7 @@ use Rattle.s2ix_table_walk.proofs.OnFaces.{face_bounds}
 use Rattle.s2ix_table_spans.specs.SpanTable.{SpanRanges}
 use Rattle.s2ix_table_faced.specs.declared.offset.Offset.{Offset}
 use Rattle.s2ix_table_parts.specs.FaceSpans.{AreOnFace, face_begin}
-use Rattle.s2ix_table_faced.specs.FirstParts.{parts_of_face}
+use Rattle.s2ix_table_faced.specs.FirstParts.{AreFirstParts, parts_of_face}
 use Rattle.s2ix_table_parts.specs.Neighbours.{AreNeighbours}
 use Rattle.s2ix_table_faced.specs.Layout.{with_over, chunks_on, covered, face_with, heavy_in}
 use Rattle.s2ix_table_faced.specs.Whole.{AreJoined}
@@ -62,12 +62,12 @@ put_again : (heavy : List (List Collection)) (face : ℕ) (chunks : List Collect
 put_again heavy face chunks same = ap (λ cs. heavy_in (set heavy face cs)) same ∙ ap heavy_in (set-get_or heavy face [])
 
 pub front_kept : {parts : List SpanRanges} {starts : List ℕ} {offsets : List Offset} {faces : List ℕ} {count : ℕ}
-    (heavy : List (List Collection)) (face first : ℕ) (chunks : List Collection) → AreJoined parts (heavy_in heavy) starts offsets faces count → face < 6 → length heavy ≡ 6
+    (heavy : List (List Collection)) (face first : ℕ) (chunks : List Collection) → AreJoined parts (heavy_in heavy) starts offsets count → AreFirstParts starts faces → face < 6 → length heavy ≡ 6
     → AllOnFaces heavy → AllOnFaces (set heavy face chunks) → (0 < first → chunks ≡ chunks_on heavy face)
     → covered (heavy_in (set heavy face chunks)) (take (first_of_face faces face + first) parts)
     ≡ covered (heavy_in heavy) (take (first_of_face faces face + first) parts)
-front_kept {parts} {starts} {offsets} {faces} {count} heavy face zero chunks joined lt six on on_now same =
-    let cut = face_cut face joined (omega arith) in
+front_kept {parts} {starts} {offsets} {faces} {count} heavy face zero chunks joined firsts lt six on on_now same =
+    let cut = face_cut face joined firsts (omega arith) in
     let n : ℕ = first_of_face faces face in
     let all : n + 0 ≡ n = omega arith in
     subst (λ k. covered (heavy_in (set heavy face chunks)) (take k parts) ≡ covered (heavy_in heavy) (take k parts)) (sym all)
@@ -75,17 +75,17 @@ front_kept {parts} {starts} {offsets} {faces} {count} heavy face zero chunks joi
     (λ other ne. get_or-set_other heavy face other chunks [] ne)
     (subst (λ to. AreNeighbours 1 (take n parts) to) cut.1 (front n 1 parts leaf_end joined.neighbours cut.0)) (omega arith)
     (before_away face (face_begin face) refl))
-front_kept {parts} {starts} {offsets} {faces} {count} heavy face (suc k) chunks joined lt six on on_now same =
+front_kept {parts} {starts} {offsets} {faces} {count} heavy face (suc k) chunks joined firsts lt six on on_now same =
     ap (λ hs. covered hs (take (first_of_face faces face + suc k) parts)) (put_again heavy face chunks (same (omega arith)))
 
 pub back_kept : {parts : List SpanRanges} {starts : List ℕ} {offsets : List Offset} {faces : List ℕ} {count : ℕ}
-    (heavy : List (List Collection)) (face end : ℕ) (chunks : List Collection) → AreJoined parts (heavy_in heavy) starts offsets faces count → face < 6 → length heavy ≡ 6
+    (heavy : List (List Collection)) (face end : ℕ) (chunks : List Collection) → AreJoined parts (heavy_in heavy) starts offsets count → AreFirstParts starts faces → face < 6 → length heavy ≡ 6
     → AllOnFaces heavy → AllOnFaces (set heavy face chunks) → end ≤ length (parts_of_face parts faces face)
     → (end < length (parts_of_face parts faces face) → chunks ≡ chunks_on heavy face)
     → covered (heavy_in (set heavy face chunks)) (drop (first_of_face faces face + end) parts)
     ≡ covered (heavy_in heavy) (drop (first_of_face faces face + end) parts)
-back_kept {parts} {starts} {offsets} {faces} {count} heavy face end chunks joined lt six on on_now within same =
-    let own = face_parts face joined lt in
+back_kept {parts} {starts} {offsets} {faces} {count} heavy face end chunks joined firsts lt six on on_now within same =
+    let own = face_parts face joined firsts lt in
     let n : ℕ = first_of_face faces face in
     let next : ℕ = first_of_face faces (face + 1) in
     let rise = own.rise in
@@ -95,7 +95,7 @@ back_kept {parts} {starts} {offsets} {faces} {count} heavy face end chunks joine
     elim (cases_lt end (length (parts_of_face parts faces face))) [
       | inl some ↦ ap (λ hs. covered hs (drop (n + end) parts)) (put_again heavy face chunks (same some))
       | inr none ↦
-          (let cut = face_cut (face + 1) joined (omega arith) in
+          (let cut = face_cut (face + 1) joined firsts (omega arith) in
           let all : n + end ≡ next = omega arith in
           subst (λ k. covered (heavy_in (set heavy face chunks)) (drop k parts) ≡ covered (heavy_in heavy) (drop k parts)) (sym all)
           (away_same heavy (set heavy face chunks) face (face_begin (face + 1)) (drop next parts) leaf_end six (length-set heavy face chunks ∙ six) on on_now

@@ -12,7 +12,6 @@ use Rattle.s2ix_table_spans.specs.SpanTable.{SpanRanges}
 use Rattle.s2ix_table_heavy.specs.declared.heavy_place.HeavyPlace.{HeavyPlace}
 use Rattle.std.specs.Prelude.{Option}
 use Rattle.s2ix_table_faced.specs.declared.offset.Offset.{Offset}
-use Rattle.s2ix_table_faced.specs.FirstParts.{AreFirstParts}
 use Rattle.s2ix_table_parts.specs.FaceSpans.{no_table, spans_of, starts_of, table_of, TablePart}
 use Rattle.s2ix_table_parts.specs.Neighbours.{AreNeighbours, held_in}
 use Rattle.s2ix_table_faced.specs.Joined.{joined_ranges}
@@ -116,17 +115,15 @@ is_same_over {parts} {heavy} {heavy_places} i j one next same is lt less first s
 
 -- what is kept beside the parts of a layout, is that of the table
 pub laid_joined : {parts : List SpanRanges} {heavy : List (List Collection)} {heavy_places : List (Option HeavyPlace)} (starts : List ℕ) (offsets : List Offset)
-    (faces : List ℕ) (count : ℕ) → IsLayout parts heavy heavy_places → starts ≡ starts_of parts → offsets ≡ offsets_of (covered (heavy_in heavy) parts)
-    → AreFirstParts starts faces → count ≡ length (joined_ranges (covered (heavy_in heavy) parts))
-    → AreJoined parts (heavy_in heavy) starts offsets faces count
-laid_joined {parts} {heavy} {heavy_places} starts offsets faces count is begins places firsts counts = record {
+    (count : ℕ) → IsLayout parts heavy heavy_places → starts ≡ starts_of parts → offsets ≡ offsets_of (covered (heavy_in heavy) parts)
+    → count ≡ length (joined_ranges (covered (heavy_in heavy) parts)) → AreJoined parts (heavy_in heavy) starts offsets count
+laid_joined {parts} {heavy} {heavy_places} starts offsets count is begins places counts = record {
   neighbours = is.neighbours;
   heavy_rises = laid_heavy is;
   under = laid_under is;
   apart = is.apart;
   starts_are = begins;
   offsets_are = places;
-  faces_are = firsts;
   within_limit = is.within_limit;
   counted = counts;
 }

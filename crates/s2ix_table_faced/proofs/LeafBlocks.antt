@@ -1,5 +1,5 @@
 -- Blocks of leaves, and the last parts that begin by them.
-use Rattle.std.proofs.Common.{◌≡◌, ℕ, ◌+◌, ◌-◌, ◌*◌, ◌/◌, ◌^◌, ◌<◌, ◌≤◌, inl, inr, List, slice_index_or, ap, arith, AllPairs}
+use Rattle.std.proofs.Common.{◌≡◌, ℕ, ◌+◌, ◌-◌, ◌*◌, ◌/◌, ◌^◌, ◌<◌, ◌≤◌, inl, inr, List, [], ◌∷◌, length, slice_index_or, ap, arith, AllPairs}
 use Rattle.std.proofs.Math.Nat.{add-mul, div-lt_iff_lt-mul, div-mul-le_self, one-le-pow, pow-le-pow_right}
 use Rattle.std.proofs.lemmas.Bool.{cases_eq, cases_lt}
 use Rattle.s2ix_table_walk.specs.Table.{leaf_end}
@@ -37,6 +37,10 @@ in_block leaf shift block count from within is have =
     record { from = omega arith; to = omega arith; listed = omega arith }
 
 -- ---- the parts from the last one by a number to the last one by a later number
+
+pub some_number : (ns : List ℕ) → slice_index_or ns 0 0 ≡ 1 → 0 < length ns
+some_number [] first = absurd (omega arith)
+some_number (n ∷ ns) first = omega arith
 
 pub rises_to : (starts : List ℕ) (leaf by to low high : ℕ) → AllPairs (λ a b. a < b) starts → IsLastStart starts by low → by ≤ leaf
     → IsLastStart starts to high → leaf < slice_index_or starts high 0 → low < high

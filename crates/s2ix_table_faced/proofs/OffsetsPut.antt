@@ -1,8 +1,10 @@
--- Parts that give way to others, with their offsets and what lies over them.
-use Rattle.std.proofs.Common.{◌≡◌, ℕ, ◌+◌, ◌≤◌, List, ◌++◌, length, take, drop, get_or, sym, ◌∙◌, ap, ap₂, arith}
+-- Parts that give way to others, with their offsets, where they begin, and what lies over them.
+use Rattle.std.proofs.Common.{◌≡◌, ℕ, ◌+◌, ◌≤◌, Option, Some, None, List, ◌++◌, length, take, drop, get_or, refl, sym, ◌∙◌, ap, ap₂, arith}
+use Rattle.std.specs.Prelude.{IfSome, MatchOption}
 use Rattle.std.proofs.lemmas.List.{drop-map, get_or-drop, map-append, take-map}
 use Rattle.s2ix_table_spans.specs.SpanTable.{SpanRanges}
 use Rattle.s2ix_table_faced.specs.declared.offset.Offset.{Offset}
+use Rattle.s2ix_table_faced.specs.declared.part_begins.PartBegins.{PartBegins}
 use Rattle.s2ix_table_faced.specs.Offsets.{offset_at, offsets_from, offsets_of, AreOffsetsFrom}
 use Rattle.s2ix_table_faced.specs.Layout.{cover, covered}
 use Rattle.s2ix_table_parts.specs.Parts.{with_parts}
@@ -41,6 +43,13 @@ put_offsets spans made same now new f e k order within many many_new is put =
           rest ∙ own_behind e spans
           ∙ ap₂ (λ o ts. offsets_from o ts) (sym first) (sym (behind_new spans made f e k (omega arith) many));
     }
+
+-- where parts begin, if new begins take the place of those that there were
+pub begins_put : {A : Type 0} (value : A → PartBegins) (new : Option A) (old now : PartBegins) (starts : List ℕ)
+    → (new ≡ None → starts ≡ old.starts.items) → IfSome new (λ made. (value made).starts.items ≡ starts)
+    → MatchOption new (now ≡ old) (λ made. now ≡ value made) → now.starts.items ≡ starts
+begins_put value None old now starts stay made put = ap (λ (b : PartBegins). b.starts.items) put ∙ sym (stay refl)
+begins_put value (Some new) old now starts stay made put = ap (λ (b : PartBegins). b.starts.items) put ∙ made
 
 -- parts that stay lie under the same heavy pairs as before
 pub put_covered : (before after : Collection) (spans made : List SpanRanges) (f e : ℕ) → covered after (take f spans) ≡ covered before (take f spans)

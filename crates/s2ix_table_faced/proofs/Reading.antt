@@ -34,15 +34,15 @@ no_offset = record { place = 0; start = 0 }
 -- ---- each part among all
 
 -- the joined ranges are a table of all pairs
-pub all_table : {parts : List SpanRanges} {heavy : Collection} {starts : List ℕ} {offsets : List Offset} {faces : List ℕ} {count : ℕ} → AreJoined parts heavy starts offsets faces count
+pub all_table : {parts : List SpanRanges} {heavy : Collection} {starts : List ℕ} {offsets : List Offset} {count : ℕ} → AreJoined parts heavy starts offsets count
     → IsTableOver (joined_layers (held_in parts) heavy) 1 leaf_end (joined_ranges (covered heavy parts))
-all_table {parts} {heavy} {starts} {offsets} {faces} {count} are =
+all_table {parts} {heavy} {starts} {offsets} {count} are =
     covered_table heavy 1 parts leaf_end (omega arith) are.neighbours are.heavy_rises are.under are.apart
 
 -- a part and its offset say what the joined ranges are there
-placed_over : {parts : List SpanRanges} {heavy : Collection} {starts : List ℕ} {offsets : List Offset} {faces : List ℕ} {count : ℕ} (i : ℕ) (d : SpanRanges) (e : Offset) → AreJoined parts heavy starts offsets faces count → i < length parts
+placed_over : {parts : List SpanRanges} {heavy : Collection} {starts : List ℕ} {offsets : List Offset} {count : ℕ} (i : ℕ) (d : SpanRanges) (e : Offset) → AreJoined parts heavy starts offsets count → i < length parts
     → IsPart (joined_ranges (covered heavy parts)) (cover heavy (get_or parts i d)).ranges (get_or offsets i e) (high_of offsets i count)
-placed_over {parts} {heavy} {starts} {offsets} {faces} {count} i d e are lt =
+placed_over {parts} {heavy} {starts} {offsets} {count} i d e are lt =
     let shown = covered heavy parts in
     let all = joined_ranges shown in
     let own = (cover heavy (get_or parts i d)).ranges in
@@ -53,26 +53,26 @@ placed_over {parts} {heavy} {starts} {offsets} {faces} {count} i d e are lt =
     (offsets_fit (joined_layers (held_in parts) heavy) shown leaf_end i d e
     (covered_over heavy 1 parts leaf_end are.neighbours are.heavy_rises are.under are.apart) (omega arith))))
 
-pub placed : {parts : List SpanRanges} {heavy : Collection} {starts : List ℕ} {offsets : List Offset} {faces : List ℕ} {count : ℕ} (i : ℕ) (d : SpanRanges) (e : Offset) → AreJoined parts heavy starts offsets faces count → i < length parts
+pub placed : {parts : List SpanRanges} {heavy : Collection} {starts : List ℕ} {offsets : List Offset} {count : ℕ} (i : ℕ) (d : SpanRanges) (e : Offset) → AreJoined parts heavy starts offsets count → i < length parts
     → IsSpread (joined_ranges (covered heavy parts)) (get_or parts i d).ranges (get_or offsets i e) (high_of offsets i count)
-placed {parts} {heavy} {starts} {offsets} {faces} {count} i d e are lt =
+placed {parts} {heavy} {starts} {offsets} {count} i d e are lt =
     let t = get_or parts i d in
     spread (joined_ranges (covered heavy parts)) t.ranges (contents_at t.from heavy) (get_or offsets i e) (high_of offsets i count)
     (placed_over i d e are lt)
 
-pub known : {parts : List SpanRanges} {heavy : Collection} {starts : List ℕ} {offsets : List Offset} {faces : List ℕ} {count : ℕ} (i : ℕ) → AreJoined parts heavy starts offsets faces count → i < length parts → IsSpanTable (table_of parts i)
-known {parts} {heavy} {starts} {offsets} {faces} {count} i are lt = span_known 1 parts leaf_end i no_table are.neighbours lt
+pub known : {parts : List SpanRanges} {heavy : Collection} {starts : List ℕ} {offsets : List Offset} {count : ℕ} (i : ℕ) → AreJoined parts heavy starts offsets count → i < length parts → IsSpanTable (table_of parts i)
+known {parts} {heavy} {starts} {offsets} {count} i are lt = span_known 1 parts leaf_end i no_table are.neighbours lt
 
-pub many_offsets : {parts : List SpanRanges} {heavy : Collection} {starts : List ℕ} {offsets : List Offset} {faces : List ℕ} {count : ℕ} → AreJoined parts heavy starts offsets faces count → length offsets ≡ length parts
-many_offsets {parts} {heavy} {starts} {offsets} {faces} {count} are =
+pub many_offsets : {parts : List SpanRanges} {heavy : Collection} {starts : List ℕ} {offsets : List Offset} {count : ℕ} → AreJoined parts heavy starts offsets count → length offsets ≡ length parts
+many_offsets {parts} {heavy} {starts} {offsets} {count} are =
     ap length are.offsets_are ∙ length_offsets first_offset (covered heavy parts) ∙ length-map parts (cover heavy)
 
-pub many_places : {parts : List SpanRanges} {heavy : Collection} {starts : List ℕ} {offsets : List Offset} {faces : List ℕ} {count : ℕ} → AreJoined parts heavy starts offsets faces count → length (places_of offsets) ≡ length parts
-many_places {parts} {heavy} {starts} {offsets} {faces} {count} are = length-map offsets (λ (s : Offset). s.place) ∙ many_offsets are
+pub many_places : {parts : List SpanRanges} {heavy : Collection} {starts : List ℕ} {offsets : List Offset} {count : ℕ} → AreJoined parts heavy starts offsets count → length (places_of offsets) ≡ length parts
+many_places {parts} {heavy} {starts} {offsets} {count} are = length-map offsets (λ (s : Offset). s.place) ∙ many_offsets are
 
 -- there are few ranges
-pub few_joined : {parts : List SpanRanges} {heavy : Collection} {starts : List ℕ} {offsets : List Offset} {faces : List ℕ} {count : ℕ} → AreJoined parts heavy starts offsets faces count → count ≤ 2000001
-few_joined {parts} {heavy} {starts} {offsets} {faces} {count} are =
+pub few_joined : {parts : List SpanRanges} {heavy : Collection} {starts : List ℕ} {offsets : List Offset} {count : ℕ} → AreJoined parts heavy starts offsets count → count ≤ 2000001
+few_joined {parts} {heavy} {starts} {offsets} {count} are =
     let within_limit = are.within_limit in
     let counted = are.counted in
     let ranges = few_ranges (joined_layers (held_in parts) heavy) 1 leaf_end (joined_ranges (covered heavy parts)) (all_table are) in
@@ -81,19 +81,19 @@ few_joined {parts} {heavy} {starts} {offsets} {faces} {count} are =
 place_at : (offsets : List Offset) (i n : ℕ) (e : Offset) → i < length offsets → slice_index_or (places_of offsets) i n ≡ (get_or offsets i e).place
 place_at offsets i n e lt = get_or-map (λ (s : Offset). s.place) offsets i e n lt
 
-pub place_of : {parts : List SpanRanges} {heavy : Collection} {starts : List ℕ} {offsets : List Offset} {faces : List ℕ} {count : ℕ} (i n : ℕ) → AreJoined parts heavy starts offsets faces count → i < length parts → slice_index_or (places_of offsets) i n ≡ (get_or offsets i no_offset).place
-place_of {parts} {heavy} {starts} {offsets} {faces} {count} i n are lt = let many = many_offsets are in place_at offsets i n no_offset (omega arith)
+pub place_of : {parts : List SpanRanges} {heavy : Collection} {starts : List ℕ} {offsets : List Offset} {count : ℕ} (i n : ℕ) → AreJoined parts heavy starts offsets count → i < length parts → slice_index_or (places_of offsets) i n ≡ (get_or offsets i no_offset).place
+place_of {parts} {heavy} {starts} {offsets} {count} i n are lt = let many = many_offsets are in place_at offsets i n no_offset (omega arith)
 
-pub first_place : {parts : List SpanRanges} {heavy : Collection} {starts : List ℕ} {offsets : List Offset} {faces : List ℕ} {count : ℕ} → AreJoined parts heavy starts offsets faces count → slice_index_or (places_of offsets) 0 0 ≡ 0
+pub first_place : {parts : List SpanRanges} {heavy : Collection} {starts : List ℕ} {offsets : List Offset} {count : ℕ} → AreJoined parts heavy starts offsets count → slice_index_or (places_of offsets) 0 0 ≡ 0
 first_place {parts = []} are = ap (λ ss. slice_index_or (places_of ss) 0 0) are.offsets_are
 first_place {parts = t ∷ []} are = ap (λ ss. slice_index_or (places_of ss) 0 0) are.offsets_are
 first_place {parts = t ∷ u ∷ us} are = ap (λ ss. slice_index_or (places_of ss) 0 0) are.offsets_are
 
 -- no offset has a place above a later one
-pub places_rise : {parts : List SpanRanges} {heavy : Collection} {starts : List ℕ} {offsets : List Offset} {faces : List ℕ} {count : ℕ} (i j : ℕ) → AreJoined parts heavy starts offsets faces count → i ≤ j → j < length parts
+pub places_rise : {parts : List SpanRanges} {heavy : Collection} {starts : List ℕ} {offsets : List Offset} {count : ℕ} (i j : ℕ) → AreJoined parts heavy starts offsets count → i ≤ j → j < length parts
     → (get_or offsets i no_offset).place ≤ (get_or offsets j no_offset).place
-places_rise {parts} {heavy} {starts} {offsets} {faces} {count} i zero are le lt = let e : i ≡ 0 = omega arith in let same = ap (λ n. (get_or offsets n no_offset).place) e in omega arith
-places_rise {parts} {heavy} {starts} {offsets} {faces} {count} i (suc j) are le lt =
+places_rise {parts} {heavy} {starts} {offsets} {count} i zero are le lt = let e : i ≡ 0 = omega arith in let same = ap (λ n. (get_or offsets n no_offset).place) e in omega arith
+places_rise {parts} {heavy} {starts} {offsets} {count} i (suc j) are le lt =
     let many = many_offsets are in
     elim (cases_eq i (suc j)) [
       | inl e ↦ (let same = ap (λ n. (get_or offsets n no_offset).place) e in omega arith)
@@ -105,12 +105,12 @@ places_rise {parts} {heavy} {starts} {offsets} {faces} {count} i (suc j) are le 
     ]
 
 -- an offset that was read
-pub offset_read : {parts : List SpanRanges} {heavy : Collection} {starts : List ℕ} {offsets : List Offset} {faces : List ℕ} {count : ℕ} (i : ℕ) (o : Offset) → AreJoined parts heavy starts offsets faces count → i < length parts → o ≡ get_or offsets i o → o ≡ get_or offsets i no_offset
-offset_read {parts} {heavy} {starts} {offsets} {faces} {count} i o are lt is = let many = many_offsets are in is ∙ get_or_default offsets i o no_offset (omega arith)
+pub offset_read : {parts : List SpanRanges} {heavy : Collection} {starts : List ℕ} {offsets : List Offset} {count : ℕ} (i : ℕ) (o : Offset) → AreJoined parts heavy starts offsets count → i < length parts → o ≡ get_or offsets i o → o ≡ get_or offsets i no_offset
+offset_read {parts} {heavy} {starts} {offsets} {count} i o are lt is = let many = many_offsets are in is ∙ get_or_default offsets i o no_offset (omega arith)
 
 -- how far the ranges of a part reach
-pub ends_few : {parts : List SpanRanges} {heavy : Collection} {starts : List ℕ} {offsets : List Offset} {faces : List ℕ} {count : ℕ} (i : ℕ) → AreJoined parts heavy starts offsets faces count → i < length parts → (get_or offsets i no_offset).place + length (table_of parts i).ranges ≤ 2000001
-ends_few {parts} {heavy} {starts} {offsets} {faces} {count} i are lt =
+pub ends_few : {parts : List SpanRanges} {heavy : Collection} {starts : List ℕ} {offsets : List Offset} {count : ℕ} (i : ℕ) → AreJoined parts heavy starts offsets count → i < length parts → (get_or offsets i no_offset).place + length (table_of parts i).ranges ≤ 2000001
+ends_few {parts} {heavy} {starts} {offsets} {count} i are lt =
     let within_limit = few_joined are in
     let counted = are.counted in
     let within = (placed i no_table no_offset are lt).within in
@@ -122,8 +122,8 @@ pub record IsAmong (parts : List SpanRanges) (offsets : List Offset) (count k f 
   pub below : k < high_of offsets f count
   pub own : k - (get_or offsets f no_offset).place < length (table_of parts f).ranges
 
-pub among : {parts : List SpanRanges} {heavy : Collection} {starts : List ℕ} {offsets : List Offset} {faces : List ℕ} {count : ℕ} (k f : ℕ) → AreJoined parts heavy starts offsets faces count → IsLastStart (places_of offsets) k f → k < count → IsAmong parts offsets count k f
-among {parts} {heavy} {starts} {offsets} {faces} {count} k f are last lt =
+pub among : {parts : List SpanRanges} {heavy : Collection} {starts : List ℕ} {offsets : List Offset} {count : ℕ} (k f : ℕ) → AreJoined parts heavy starts offsets count → IsLastStart (places_of offsets) k f → k < count → IsAmong parts offsets count k f
+among {parts} {heavy} {starts} {offsets} {count} k f are last lt =
     let many = many_places are in
     let listed = last.within in
     let part = placed f no_table no_offset are (omega arith) in
@@ -160,9 +160,9 @@ read_part whole part offset high own is below lt = record {
 }
 
 -- the range in its part
-pub is_read : {parts : List SpanRanges} {heavy : Collection} {starts : List ℕ} {offsets : List Offset} {faces : List ℕ} {count : ℕ} (part own : ℕ) → AreJoined parts heavy starts offsets faces count → HasOwn offsets count part own
+pub is_read : {parts : List SpanRanges} {heavy : Collection} {starts : List ℕ} {offsets : List Offset} {count : ℕ} (part own : ℕ) → AreJoined parts heavy starts offsets count → HasOwn offsets count part own
     → IsReadIn (joined_ranges (covered heavy parts)) (table_of parts part).ranges (get_or offsets part no_offset) (place_on offsets part own) own
-is_read {parts} {heavy} {starts} {offsets} {faces} {count} part own are has =
+is_read {parts} {heavy} {starts} {offsets} {count} part own are has =
     let many = many_places are in
     let listed = has.last.within in
     let place = place_of part 0 are (omega arith) in
@@ -175,10 +175,10 @@ is_read {parts} {heavy} {starts} {offsets} {faces} {count} part own are has =
     subst (λ n. IsReadIn (joined_ranges (covered heavy parts)) (table_of parts part).ranges (get_or offsets part no_offset) (n + own) own) (sym place) read
 
 -- each range of a part has, with the heavy pairs over the part, the contents of one of all
-pub same_contents : {parts : List SpanRanges} {heavy : Collection} {starts : List ℕ} {offsets : List Offset} {faces : List ℕ} {count : ℕ} (part own : ℕ) → AreJoined parts heavy starts offsets faces count → HasRange parts part own
+pub same_contents : {parts : List SpanRanges} {heavy : Collection} {starts : List ℕ} {offsets : List Offset} {count : ℕ} (part own : ℕ) → AreJoined parts heavy starts offsets count → HasRange parts part own
     → (range_at (joined_ranges (covered heavy parts)) (place_on offsets part own)).contents
     ≡ (range_at (table_of parts part).ranges own).contents ++ contents_at (table_of parts part).from heavy
-same_contents {parts} {heavy} {starts} {offsets} {faces} {count} part own are has =
+same_contents {parts} {heavy} {starts} {offsets} {count} part own are has =
     let t = table_of parts part in
     let over = contents_at t.from heavy in
     let within = has.within in
@@ -193,9 +193,9 @@ pub record IsInside (whole part : List Range) (k own : ℕ) : Type 0 where
   pub start : (range_at whole k).start ≡ (range_at part own).start
   pub limit : (range_at whole k).limit ≡ (range_at part (own + 1)).start
 
-pub inside : {parts : List SpanRanges} {heavy : Collection} {starts : List ℕ} {offsets : List Offset} {faces : List ℕ} {count : ℕ} (part own : ℕ) → AreJoined parts heavy starts offsets faces count → HasRange parts part (own + 1) → 0 < own
+pub inside : {parts : List SpanRanges} {heavy : Collection} {starts : List ℕ} {offsets : List Offset} {count : ℕ} (part own : ℕ) → AreJoined parts heavy starts offsets count → HasRange parts part (own + 1) → 0 < own
     → IsInside (joined_ranges (covered heavy parts)) (table_of parts part).ranges (place_on offsets part own) own
-inside {parts} {heavy} {starts} {offsets} {faces} {count} part own are has later =
+inside {parts} {heavy} {starts} {offsets} {count} part own are has later =
     let all = joined_ranges (covered heavy parts) in
     let place = place_of part 0 are has.listed in
     let here : place_on offsets part own ≡ (get_or offsets part no_offset).place + own = omega arith in
@@ -233,9 +233,9 @@ found_part whole part offset high j q is found =
       limit = omega arith;
     }
 
-pub found_in : {parts : List SpanRanges} {heavy : Collection} {starts : List ℕ} {offsets : List Offset} {faces : List ℕ} {count : ℕ} (part j q : ℕ) (span : SpanRanges) → AreJoined parts heavy starts offsets faces count → part < length parts → span ≡ table_of parts part → IsFound span.ranges j q
+pub found_in : {parts : List SpanRanges} {heavy : Collection} {starts : List ℕ} {offsets : List Offset} {count : ℕ} (part j q : ℕ) (span : SpanRanges) → AreJoined parts heavy starts offsets count → part < length parts → span ≡ table_of parts part → IsFound span.ranges j q
     → IsFound (joined_ranges (covered heavy parts)) ((get_or offsets part no_offset).place + j) q
-found_in {parts} {heavy} {starts} {offsets} {faces} {count} part j q span are lt same found =
+found_in {parts} {heavy} {starts} {offsets} {count} part j q span are lt same found =
     let is = placed part no_table no_offset are lt in
     let own = subst (λ (s : SpanRanges). IsFound s.ranges j q) same found in
     found_part (joined_ranges (covered heavy parts)) (table_of parts part).ranges (get_or offsets part no_offset) (high_of offsets part count) j q is own

@@ -7,9 +7,7 @@ use Rattle.s2ix_table_walk.specs.Table.{Range, range_at, leaf_end}
 use Rattle.s2ix_table_spans.specs.SpanTable.{SpanRanges}
 use Rattle.s2ix_table_heavy.specs.Chunks.{AreChunks}
 use Rattle.s2ix_table_heavy.specs.declared.heavy_place.HeavyPlace.{HeavyPlace}
-use Rattle.s2ix_table_faced.specs.declared.blocks.Blocks.{Blocks}
 use Rattle.s2ix_table_faced.specs.declared.offset.Offset.{Offset}
-use Rattle.s2ix_table_faced.specs.Blocks.{AreBlocks}
 use Rattle.s2ix_table_parts.specs.FaceSpans.{no_table, table_of}
 use Rattle.s2ix_table_parts.specs.Neighbours.{held_in}
 use Rattle.s2ix_table_faced.specs.Joined.{joined_ranges}
@@ -121,10 +119,10 @@ count_stays {parts} {heavy} {now} {heavy_places} was is =
 
 -- what is kept beside the parts is right under these heavy pairs, too
 pub still_sound : {parts : List SpanRanges} {heavy now : List (List Collection)} {heavy_places : List (Option HeavyPlace)} {starts : List ℕ} {offsets : List Offset}
-    {blocks : Blocks} {faces : List ℕ} {count : ℕ} → AreJoined parts (heavy_in heavy) starts offsets faces count → AreBlocks starts blocks
-    → AreLayered heavy parts heavy_places → ((face : ℕ) → face < 6 → AreChunks (chunks_on heavy face)) → IsLayout parts now heavy_places
-    → IsSound parts heavy_places starts offsets now blocks faces count
-still_sound {parts} {heavy} {now} {heavy_places} {starts} {offsets} {blocks} {faces} {count} joined blocked layered chunks is =
+    {count : ℕ} → AreJoined parts (heavy_in heavy) starts offsets count → AreLayered heavy parts heavy_places
+    → ((face : ℕ) → face < 6 → AreChunks (chunks_on heavy face)) → IsLayout parts now heavy_places
+    → IsSound parts heavy_places starts offsets now count
+still_sound {parts} {heavy} {now} {heavy_places} {starts} {offsets} {count} joined layered chunks is =
     let was : IsLayout parts heavy heavy_places = record {
       neighbours = joined.neighbours;
       layered = layered;
@@ -133,8 +131,7 @@ still_sound {parts} {heavy} {now} {heavy_places} {starts} {offsets} {blocks} {fa
       within_limit = joined.within_limit;
     } in
     laid_sound is
-    (laid_joined starts offsets faces count is joined.starts_are (joined.offsets_are ∙ offsets_stay was is) joined.faces_are
-    (joined.counted ∙ count_stays was is)) blocked
+    (laid_joined starts offsets count is joined.starts_are (joined.offsets_are ∙ offsets_stay was is) (joined.counted ∙ count_stays was is))
 
 -- and if the heavy pairs stayed
 pub put_or_kept : {A E : Type 0} (r : Result A E) (P : List (List Collection) → Type 0) (now was put : List (List Collection))

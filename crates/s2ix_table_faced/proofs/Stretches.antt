@@ -46,13 +46,13 @@ window_between whole first last offset offset_last high high_last leaf until a b
           omega arith;
     }
 
-pub parts_window : {parts : List SpanRanges} {heavy : Collection} {starts : List ℕ} {offsets : List Offset} {faces : List ℕ} {count : ℕ} (first last leaf end : ℕ)
-    (span : SpanRanges) → AreJoined parts heavy starts offsets faces count → first ≤ last → last < length parts → slice_index_or starts first 0 ≤ leaf
+pub parts_window : {parts : List SpanRanges} {heavy : Collection} {starts : List ℕ} {offsets : List Offset} {count : ℕ} (first last leaf end : ℕ)
+    (span : SpanRanges) → AreJoined parts heavy starts offsets count → first ≤ last → last < length parts → slice_index_or starts first 0 ≤ leaf
     → leaf < (table_of parts last).to → span ≡ table_of parts last → end ≡ (get_or offsets last no_offset).place + length span.ranges
     → ((get_or offsets first no_offset).place ≤ end)
     × HaveLeaves (joined_ranges (covered heavy parts)) leaf (table_of parts last).to (get_or offsets first no_offset).place
     (end - (get_or offsets first no_offset).place)
-parts_window {parts} {heavy} {starts} {offsets} {faces} {count} first last leaf end span are order lt begins later same ends =
+parts_window {parts} {heavy} {starts} {offsets} {count} first last leaf end span are order lt begins later same ends =
     let all = joined_ranges (covered heavy parts) in
     let first_part = placed first no_table no_offset are (omega arith) in
     let last_part = placed last no_table no_offset are lt in
@@ -113,10 +113,10 @@ stretch_part hs whole part offset high starts t is same =
     length-drop [] more = absurd (omega arith)
     length-drop (x ∷ xs) more = omega arith
 
-pub part_stretch : {parts : List SpanRanges} {heavy : Collection} {starts : List ℕ} {offsets : List Offset} {faces : List ℕ} {count : ℕ} (part : ℕ) (span : SpanRanges) (own : List ℕ) → AreJoined parts heavy starts offsets faces count → part < length parts → span ≡ table_of parts part
+pub part_stretch : {parts : List SpanRanges} {heavy : Collection} {starts : List ℕ} {offsets : List Offset} {count : ℕ} (part : ℕ) (span : SpanRanges) (own : List ℕ) → AreJoined parts heavy starts offsets count → part < length parts → span ≡ table_of parts part
     → own ≡ map (λ (r : Range). r.start) span.ranges
     → IsStretch (joined_ranges (covered heavy parts)) ((get_or offsets part no_offset).place + 1) (length own - 2) (drop 1 own)
-part_stretch {parts} {heavy} {starts} {offsets} {faces} {count} part span own are lt same is =
+part_stretch {parts} {heavy} {starts} {offsets} {count} part span own are lt same is =
     let at = placed part no_table no_offset are lt in
     let begins = is ∙ ap (λ (s : SpanRanges). map (λ (r : Range). r.start) s.ranges) same in
     let table = all_table are in
@@ -124,9 +124,9 @@ part_stretch {parts} {heavy} {starts} {offsets} {faces} {count} part span own ar
     (high_of offsets part count) own table at begins
 
 -- each part has a range
-pub some_starts : {parts : List SpanRanges} {heavy : Collection} {starts : List ℕ} {offsets : List Offset} {faces : List ℕ} {count : ℕ} (part : ℕ) (span : SpanRanges) (own : List ℕ) → AreJoined parts heavy starts offsets faces count → part < length parts → span ≡ table_of parts part
+pub some_starts : {parts : List SpanRanges} {heavy : Collection} {starts : List ℕ} {offsets : List Offset} {count : ℕ} (part : ℕ) (span : SpanRanges) (own : List ℕ) → AreJoined parts heavy starts offsets count → part < length parts → span ≡ table_of parts part
     → own ≡ map (λ (r : Range). r.start) span.ranges → 1 ≤ length own
-some_starts {parts} {heavy} {starts} {offsets} {faces} {count} part span own are lt same is =
+some_starts {parts} {heavy} {starts} {offsets} {count} part span own are lt same is =
     let some = (placed part no_table no_offset are lt).some in
     let many = ap length is ∙ length-map span.ranges (λ (r : Range). r.start) in
     let ranges = ap (λ (s : SpanRanges). length s.ranges) same in

@@ -13,7 +13,7 @@ use Rattle.s2ix_table_heavy.specs.declared.heavy_place.HeavyPlace.{HeavyPlace}
 use Rattle.s2ix_table_faced.specs.declared.offset.Offset.{Offset}
 use Rattle.s2ix_table_faced.specs.Faces.{held_on}
 use Rattle.s2ix_table_parts.specs.FaceSpans.{face_begin}
-use Rattle.s2ix_table_faced.specs.FirstParts.{of_face}
+use Rattle.s2ix_table_faced.specs.FirstParts.{AreFirstParts, of_face}
 use Rattle.s2ix_table_parts.specs.Neighbours.{held_in}
 use Rattle.s2ix_table_faced.specs.Layout.{AreLayered, AreLed, chunks_on, heavy_in}
 use Rattle.s2ix_table_parts.specs.Layered.{IsFaceLayered, IsFaceWith}
@@ -60,11 +60,11 @@ led_dropped (suc n) heavy (t ∷ ts) [] led = absurd led
 led_dropped (suc n) heavy (t ∷ ts) (x ∷ xs) led = led_dropped n heavy ts xs led.1
 
 pub face_of_table : {parts : List SpanRanges} {heavy : List (List Collection)} {heavy_places : List (Option HeavyPlace)} {starts : List ℕ} {offsets : List Offset}
-    {faces : List ℕ} {count : ℕ} (face : ℕ) → AreJoined parts (heavy_in heavy) starts offsets faces count → AreLayered heavy parts heavy_places
+    {faces : List ℕ} {count : ℕ} (face : ℕ) → AreJoined parts (heavy_in heavy) starts offsets count → AreFirstParts starts faces → AreLayered heavy parts heavy_places
     → ((f : ℕ) → f < 6 → AreChunks (chunks_on heavy f)) → face < 6
     → IsFaceOf (joined_layers (held_in parts) (heavy_in heavy)) face (chunks_on heavy face) (of_face parts faces face) (of_face heavy_places faces face)
-face_of_table {parts} {heavy} {heavy_places} {starts} {offsets} {faces} {count} face joined layered chunks lt =
-    let own = face_parts face joined lt in
+face_of_table {parts} {heavy} {heavy_places} {starts} {offsets} {faces} {count} face joined firsts layered chunks lt =
+    let own = face_parts face joined firsts lt in
     let light = of_face parts faces face in
     let first = first_of_face faces face in
     let n : ℕ = first_of_face faces (face + 1) - first in
@@ -88,20 +88,20 @@ face_of_table {parts} {heavy} {heavy_places} {starts} {offsets} {faces} {count} 
     }
 
 pub faces_of_table : {parts : List SpanRanges} {heavy : List (List Collection)} {heavy_places : List (Option HeavyPlace)} {starts : List ℕ} {offsets : List Offset}
-    {faces : List ℕ} {count : ℕ} → AreJoined parts (heavy_in heavy) starts offsets faces count → AreLayered heavy parts heavy_places
+    {faces : List ℕ} {count : ℕ} → AreJoined parts (heavy_in heavy) starts offsets count → AreFirstParts starts faces → AreLayered heavy parts heavy_places
     → ((f : ℕ) → f < 6 → AreChunks (chunks_on heavy f)) → AreFacesOf (joined_layers (held_in parts) (heavy_in heavy)) heavy parts heavy_places faces
-faces_of_table {parts} {heavy} {heavy_places} {starts} {offsets} {faces} {count} joined layered chunks =
-    let one = face_cut 0 joined (omega arith) in
+faces_of_table {parts} {heavy} {heavy_places} {starts} {offsets} {faces} {count} joined firsts layered chunks =
+    let one = face_cut 0 joined firsts (omega arith) in
     record {
       six = layered.six;
       first = elim (cases_lt 0 (first_of_face faces 0)) [
         | inl more ↦ (let less = cut_after 0 (first_of_face faces 0) 1 parts leaf_end joined.neighbours more one.0 in absurd (omega (arith, one.1)))
         | inr none ↦ omega arith
       ];
-      last = joined.faces_are.end ∙ length_starts joined;
+      last = firsts.end ∙ length_starts joined;
       many = many_led heavy parts heavy_places layered.led;
-      rise = λ face lt. (face_parts face joined lt).rise;
-      each = λ face lt. face_of_table face joined layered chunks lt;
+      rise = λ face lt. (face_parts face joined firsts lt).rise;
+      each = λ face lt. face_of_table face joined firsts layered chunks lt;
     }
 
 -- ---- all faces but one stay

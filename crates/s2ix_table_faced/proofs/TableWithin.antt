@@ -9,7 +9,7 @@ use Rattle.s2ix_table_heavy.specs.Chunks.{AreChunks}
 use Rattle.s2ix_table_heavy.specs.declared.heavy_place.HeavyPlace.{HeavyPlace}
 use Rattle.s2ix_table_faced.specs.declared.offset.Offset.{Offset}
 use Rattle.s2ix_table_faced.specs.Faces.{entries_on, has_entry_on, held_on}
-use Rattle.s2ix_table_faced.specs.FirstParts.{of_face, parts_of_face}
+use Rattle.s2ix_table_faced.specs.FirstParts.{AreFirstParts, of_face, parts_of_face}
 use Rattle.s2ix_table_parts.specs.Neighbours.{held_in}
 use Rattle.s2ix_table_faced.specs.Layout.{AreLayered, chunks_on, heavy_in}
 use Rattle.s2ix_table_parts.specs.Layered.{IsFaceWith}
@@ -33,14 +33,14 @@ changed_there face old pairs change es rises own own_entries =
 pub table_within : {parts : List SpanRanges} {heavy : List (List Collection)} {heavy_places : List (Option HeavyPlace)} {starts : List ℕ} {offsets : List Offset}
     {faces : List ℕ} {count : ℕ} (change : List Entry) (face own : ℕ) (hs : Collection) (ts : List SpanRanges) (os : List (Option HeavyPlace))
     (now chunks : List Collection)
-    → AreJoined parts (heavy_in heavy) starts offsets faces count → AreLayered heavy parts heavy_places
+    → AreJoined parts (heavy_in heavy) starts offsets count → AreFirstParts starts faces → AreLayered heavy parts heavy_places
     → ((f : ℕ) → f < 6 → AreChunks (chunks_on heavy f)) → face < 6
     → ((other : ℕ) → other < 6 → other ≢ face → has_entry_on change other ≡ false)
     → IsCollection (changed (joined_layers (held_in parts) (heavy_in heavy)) change) → length (changed (joined_layers (held_in parts) (heavy_in heavy)) change) ≤ 1000000
     → own ≡ face → ts ≡ parts_of_face parts faces face → os ≡ of_face heavy_places faces face → chunks ≡ now
     → hs ≡ held_on face (changed (joined_layers (held_in parts) (heavy_in heavy)) change) → IsFaceWith own hs ts os 0 0 [] [] chunks
     → AreAllMade (changed (joined_layers (held_in parts) (heavy_in heavy)) change) (set heavy face now) parts heavy_places
-table_within {parts} {heavy} {heavy_places} {starts} {offsets} {faces} {count} change face own hs ts os now chunks joined layered are six only rises within_limit
+table_within {parts} {heavy} {heavy_places} {starts} {offsets} {faces} {count} change face own hs ts os now chunks joined firsts layered are six only rises within_limit
     own_is ts_are os_are chunks_are hs_are with =
     let all = changed (joined_layers (held_in parts) (heavy_in heavy)) change in
     let k : ℕ = first_of_face faces face + 0 in
@@ -49,6 +49,6 @@ table_within {parts} {heavy} {heavy_places} {starts} {offsets} {faces} {count} c
     (subst (λ xs. IsFaceWith own hs xs (of_face heavy_places faces face) 0 0 [] [] now) ts_are
     (subst (λ xs. IsFaceWith own hs ts xs 0 0 [] [] now) os_are
     (subst (λ cs. IsFaceWith own hs ts os 0 0 [] [] cs) chunks_are with)))) in
-    let made = face_put_in change face 0 0 [] [] now joined layered are six only rises within_limit there in
+    let made = face_put_in change face 0 0 [] [] now joined firsts layered are six only rises within_limit there in
     subst (λ xs. AreAllMade all (set heavy face now) xs heavy_places) (none_gives_way k parts)
     (subst (λ xs. AreAllMade all (set heavy face now) (take k parts ++ ([] ++ drop k parts)) xs) (none_gives_way k heavy_places) made)

@@ -66,9 +66,9 @@ under-prop : (heavy : Collection) (parts : List SpanRanges) → IsProp (AreAllUn
 under-prop heavy [] = hlevel props
 under-prop heavy (t ∷ ts) = hlevel (props, under-prop heavy ts)
 
-pub joined-prop : (parts : List SpanRanges) (heavy : Collection) (starts : List ℕ) (offsets : List Offset) (faces : List ℕ) (count : ℕ)
-    → IsProp (AreJoined parts heavy starts offsets faces count)
-joined-prop parts heavy starts offsets faces count =
+pub joined-prop : (parts : List SpanRanges) (heavy : Collection) (starts : List ℕ) (offsets : List Offset) (count : ℕ)
+    → IsProp (AreJoined parts heavy starts offsets count)
+joined-prop parts heavy starts offsets count =
     hlevel (props, coded_offset, IsCollection-prop 0 heavy, neighbours-prop 1 parts leaf_end, under-prop heavy parts)
 
 led-prop : (heavy : List (List Collection)) (parts : List SpanRanges) (heavy_places : List (Option HeavyPlace)) → IsProp (AreLed heavy parts heavy_places)

@@ -1,12 +1,10 @@
 //! Which parts of a table may have a leaf, by blocks of leaves.
-ghost use Rattle.std.specs.Prelude.{◌≡◌, ◌+◌, ◌*◌, ◌^◌, ◌<◌, ◌≤◌, ℕ, IfOk, IsTrue, None, AllPairs, length, slice_index_or};
+ghost use Rattle.std.specs.Prelude.{◌≡◌, ◌+◌, ◌*◌, ◌^◌, ◌<◌, ◌≤◌, ℕ, IfOk, AllPairs, length, slice_index_or};
 ghost use Rattle.s2ix_table_spans.specs.Starts.{IsAmong, IsLastStart};
 ghost use Rattle.s2ix_table_walk.specs.Table.{leaf_end};
 ghost use Rattle.s2ix_table_faced.specs.AllLeaves.{HaveAllLeaves};
-ghost use Rattle.s2ix_table_parts.specs.FaceSpans.{spans_of, starts_of};
 
 use s2id_core::{LEAF_END, OutOfMemory};
-use s2ix_table_parts::Part;
 use s2ix_table_walk::Window;
 use std::alloc::Global;
 
@@ -22,46 +20,33 @@ pub(crate) struct Blocks {
 impl Blocks {
     ghost use Rattle.s2ix_table_faced.specs.Blocks.{AreBlocks};
 
+    // The blocks of a table whose parts begin at these starts. O(p) for p parts. `OutOfMemory` if a growth is refused.
+    pub(crate) fn new(alloc: Global, starts: &[u64]) -> Result<Blocks, OutOfMemory>
+        requires some { 0 < length starts.now }
+        requires first { slice_index_or starts.now 0 0 ≡ 1 }
+        ensures { IfOk result (λ blocks. AreBlocks starts.now blocks) }
+    {
+        let mut blocks = Blocks::room(alloc, starts.len())?;
+        blocks.count(starts);
+        Ok(blocks)
+    }
+
     // Blocks for a table in so many parts, about two for each of many, before they are counted. O(p) for p parts. `OutOfMemory` if a growth
     // is refused.
-    pub(crate) fn room(alloc: Global, parts: usize) -> Result<Blocks, OutOfMemory> {
+    fn room(alloc: Global, parts: usize) -> Result<Blocks, OutOfMemory> {
         let shift = block_shift(parts);
         let count = (LEAF_END >> shift) as usize + 2;
         let lasts = Vec::from_elem(alloc, 0, count)?;
         Ok(Blocks { lasts, shift })
     }
 
-    // A copy. O(p) for p parts. `OutOfMemory` if a growth is refused.
-    pub(crate) fn copied(&self, alloc: Global) -> Result<Blocks, OutOfMemory>
-        ensures { IfOk result (λ blocks. (blocks.lasts.items ≡ self.now.lasts.items) × (blocks.shift ≡ self.now.shift)) }
-    {
-        let lasts = Vec::from_slice(alloc, &self.lasts)?;
-        Ok(Blocks {
-            lasts,
-            shift: self.shift,
-        })
-    }
-
-    // Counts the parts anew, which begin at other starts now. O(p) for p parts.
-    pub(crate) fn count(&mut self, starts: &[u64])
+    // Counts the parts that begin at these starts. O(p) for p parts.
+    fn count(&mut self, starts: &[u64])
         requires some { 0 < length starts.now }
         requires first { slice_index_or starts.now 0 0 ≡ 1 }
         ensures { AreBlocks starts.now self.new }
     {
         count_lasts(&mut self.lasts, starts, 1 << self.shift);
-    }
-
-    // Takes these blocks in place of its own, if there are some, and counts them.
-    pub(crate) fn replace(&mut self, room: Option<Blocks>, starts: &[u64])
-        requires stay { room ≡ None → AreBlocks starts.now self.old }
-        requires some { 0 < length starts.now }
-        requires first { slice_index_or starts.now 0 0 ≡ 1 }
-        ensures { AreBlocks starts.now self.new }
-    {
-        if let Some(blocks) = room {
-            *self = blocks;
-            self.count(starts);
-        }
     }
 
     // A few of the parts that begin at these starts: one of them has the leaf. It reads one start. O(1).
@@ -128,37 +113,4 @@ fn count_lasts(lasts: &mut [usize], starts: &[u64], size: u64)
         leaf += size;
         block += 1;
     }
-}
-
-// Whether parts begin at these leaves. O(k) for k of them.
-fn begin_at(parts: &[Part], starts: &[u64]) -> bool
-    ensures { IsTrue result → starts_of (spans_of parts.now) ≡ starts.now }
-{
-    if parts.len() != starts.len() {
-        return false;
-    }
-    let mut part = 0;
-    while part < parts.len() {
-        if parts[part].table().from() != starts[part] {
-            return false;
-        }
-        part += 1;
-    }
-    true
-}
-
-// Blocks for so many parts, of which some take the place of others: none if they begin where those did. O(p) for p parts. `OutOfMemory`
-// if a growth is refused.
-pub(crate) fn room_for(
-    alloc: Global,
-    count: usize,
-    starts: &[u64],
-    parts: &[Part],
-) -> Result<Option<Blocks>, OutOfMemory>
-    ensures { IfOk result (λ room. room ≡ None → starts_of (spans_of parts.now) ≡ starts.now) }
-{
-    if begin_at(parts, starts) {
-        return Ok(None);
-    }
-    Ok(Some(Blocks::room(alloc, count)?))
 }

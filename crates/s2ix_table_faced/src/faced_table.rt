@@ -11,10 +11,10 @@ ghost use Rattle.s2ix_table_walk.specs.Places.{IsPlace, LeadsTo};
 ghost use Rattle.s2ix_table_faced.specs.declared.part_place.FacedPlace.TheVariants.{Light, Heavy};
 ghost use Rattle.s2ix_table_walk.specs.Shown.{AreBorders};
 ghost use Rattle.s2ix_table_walk.specs.Table.{range_at, IsFound, IsRangeTable, leaf_end};
-ghost use Rattle.s2ix_table_faced.specs.Blocks.{AreBlocks};
 ghost use Rattle.s2ix_table_faced.specs.Faces.{changed_count, held_on, changed_on, faces, faces_of, has_entry_on};
 ghost use Rattle.s2ix_table_faced.specs.FirstParts.{BeginFaces, parts_of_face, of_face};
 ghost use Rattle.s2ix_table_parts.specs.FaceSpans.{heavy_places_of, spans_of, starts_of, table_of};
+ghost use Rattle.s2ix_table_parts.specs.Made.{IfOkSome};
 ghost use Rattle.s2ix_table_parts.specs.Neighbours.{held_in, AreNeighbours};
 ghost use Rattle.s2ix_table_faced.specs.Layout.{AreLayered, IsLayout, chunks_on, covered, heavy_in, pairs_of, ranges_of};
 ghost use Rattle.s2ix_table_parts.specs.Layered.{IsFaceLayered, IsFaceWith, face_pairs};
@@ -28,7 +28,6 @@ ghost use Rattle.s2ix_bag_lists.specs.Faces.{all_of};
 
 use crate::all_faces::{AllFaces, read_all_faces};
 use crate::bag_reader::BagReader;
-use crate::blocks::{Blocks, room_for};
 use crate::changes::only_face;
 use crate::copies::{copy_of, shared_parts};
 use crate::entries_on::entries_on;
@@ -36,10 +35,11 @@ use crate::heavy_faces::{all_are_chunks, set_face};
 use crate::layout::{Layout, uncounted};
 use crate::offset::Offset;
 use crate::pair_reader::PairReader;
+use crate::part_begins::{PartBegins, begin_at, put_begins, starts_with};
 use crate::part_place::{FaceHeavyPlace, FacedPlace, PartPlace};
 use crate::read_faces::read_changed_lists;
 use crate::shares_chains::SharesChains;
-use crate::starts::{first_parts, last_by};
+use crate::starts::last_by;
 use s2id_core::{CellId, FACES, LEAF_END, OutOfMemory};
 use s2ix_bag_changes::{Bag, Change};
 use s2ix_bag_lists::HeldParts;
@@ -49,6 +49,7 @@ use s2ix_table_queries::{BATCH, Bookmark, LeafContents, RangeTable, Stretch};
 use s2ix_table_spans::SpanTable;
 use s2ix_table_walk::{LeafWindow, RangeRow, Window};
 use std::alloc::Global;
+use std::sync::Arc;
 
 /// A range table in parts. Each part is a table with shared chains over some leaves of one face, and the pairs of heavy cells lie in chunks
 /// over the parts. A table that [`FacedTable::rebuilt`] makes of this one shares the parts that stay. Ranges that meet where two parts do are
@@ -61,18 +62,13 @@ pub struct FacedTable {
     pub(crate) parts: Vec<Part>,
     // for each part the place among all of its first range, and the leaf number at which that range begins
     pub(crate) offsets: Vec<Offset>,
-    // the leaf number at which each part's span begins
-    pub(crate) starts: Vec<u64>,
-    // which parts may have a leaf
-    pub(crate) blocks: Blocks,
-    // for each face the number of its first part, and after the last face how many parts there are
-    faces: [usize; FACES + 1],
+    // where the parts begin; copies share it
+    pub(crate) begins: Arc<PartBegins>,
     // how many ranges there are
     count: usize,
     // the heavy pairs of each face
     pub(crate) heavy: [HeavyPairs; FACES],
-    ghost joined: { AreJoined (spans_of parts.items) (heavy_in heavy) starts.items offsets.items faces count } by { joined-prop (spans_of parts.items) (heavy_in heavy) starts.items offsets.items faces count },
-    ghost blocked: { AreBlocks starts.items blocks },
+    ghost joined: { AreJoined (spans_of parts.items) (heavy_in heavy) begins.value.starts.items offsets.items count } by { joined-prop (spans_of parts.items) (heavy_in heavy) begins.value.starts.items offsets.items count },
     ghost layered: { AreLayered heavy (spans_of parts.items) (heavy_places_of parts.items) } by { layered-prop heavy (spans_of parts.items) (heavy_places_of parts.items) },
     ghost rises: { IsCollection (pairs_of parts.items heavy) } by { IsCollection-prop 0 (pairs_of parts.items heavy) },
     ghost table: { IsRangeTable (pairs_of parts.items heavy) (ranges_of parts.items heavy) },
@@ -120,7 +116,7 @@ impl RangeTable for FacedTable {
     // The ranges of a few parts, up to where the part after them begins.
     #[inline]
     fn window(&self, leaf: u64) -> LeafWindow {
-        let parts = self.blocks.parts_with(&self.starts, leaf);
+        let parts = self.begins.parts_with(leaf);
         let first = self.offsets[parts.first].place;
         let last = parts.first + parts.size - 1;
         let end = self.offsets[last].place + self.span(last).range_count();
@@ -341,7 +337,7 @@ impl FacedTable {
         }
         let new = self.face_after(alloc, face, lists, change)?;
         all_are_chunks(&self.heavy);
-        let first = self.faces[usize::from(face)];
+        let first = self.begins.faces[usize::from(face)];
         self.put(alloc, new.shifted_by(first))?;
         Ok(())
     }
@@ -383,10 +379,11 @@ impl FacedTable {
         requires within_limit { length (changed (⟦<FacedTable as RangeTable>⟧.pairs self.now) change.now) ≤ 1000000 }
         ensures face { IfOk result (λ new. new.face ≡ face) }
         ensures new_face { IfOk result (λ new. IsFaceWith face (held_on face (changed (⟦<FacedTable as RangeTable>⟧.pairs self.now) change.now))
-            (parts_of_face (spans_of self.now.parts.items) self.now.faces face) (of_face (heavy_places_of self.now.parts.items) self.now.faces face)
+            (parts_of_face (spans_of self.now.parts.items) self.now.begins.value.faces face)
+            (of_face (heavy_places_of self.now.parts.items) self.now.begins.value.faces face)
             new.first new.end (spans_of new.parts.items) (heavy_places_of new.parts.items) new.heavy) }
         ensures before { IfOk result (λ new. 0 < new.first → new.heavy ≡ chunks_on self.now.heavy face) }
-        ensures behind { IfOk result (λ new. new.end < length (parts_of_face (spans_of self.now.parts.items) self.now.faces face)
+        ensures behind { IfOk result (λ new. new.end < length (parts_of_face (spans_of self.now.parts.items) self.now.begins.value.faces face)
             → new.heavy ≡ chunks_on self.now.heavy face) }
     {
         let before = self.face(face);
@@ -400,8 +397,8 @@ impl FacedTable {
     pub(crate) fn face(&self, face: u8) -> Face<'_>
         requires { face < 6 }
         ensures face { result.face ≡ face }
-        ensures parts { spans_of result.parts.now ≡ parts_of_face (spans_of self.now.parts.items) self.now.faces face }
-        ensures heavy_places { heavy_places_of result.parts.now ≡ of_face (heavy_places_of self.now.parts.items) self.now.faces face }
+        ensures parts { spans_of result.parts.now ≡ parts_of_face (spans_of self.now.parts.items) self.now.begins.value.faces face }
+        ensures heavy_places { heavy_places_of result.parts.now ≡ of_face (heavy_places_of self.now.parts.items) self.now.begins.value.faces face }
         ensures heavy { result.heavy.now ≡ chunks_on self.now.heavy face }
         ensures layered { IsFaceLayered face result.heavy.now (spans_of result.parts.now) (heavy_places_of result.parts.now) }
         ensures pairs { face_pairs result.parts.now result.heavy.now
@@ -437,7 +434,7 @@ impl FacedTable {
         ensures heavy_stay { OnErr result (self.new.heavy ≡ self.old.heavy) }
         ensures offsets_stay { OnErr result (self.new.offsets.items ≡ self.old.offsets.items) }
     {
-        let blocks = self.blocks_after(alloc, &new)?;
+        let begins = self.begins_after(alloc, &new)?;
         let NewFace {
             face,
             first,
@@ -446,11 +443,9 @@ impl FacedTable {
             heavy,
         } = new;
         let count = parts.len();
-        let starts = begins_of(alloc, &parts)?;
         let offsets = uncounted(alloc, count)?;
         self.make_room(count)?;
         put_between(&mut self.parts, first, end, parts);
-        put_between(&mut self.starts, first, end, starts);
         put_between(&mut self.offsets, first, end, offsets);
         set_face(&mut self.heavy, face, heavy);
         let layout = Layout {
@@ -458,57 +453,63 @@ impl FacedTable {
             heavy: &self.heavy,
         };
         self.count = layout.count_from(first, first + count, &mut self.offsets);
-        self.faces = first_parts(&self.starts);
-        self.blocks.replace(blocks, &self.starts);
+        put_begins(&mut self.begins, begins);
         Ok(())
     }
 
     // Room for so many parts more in each list. `OutOfMemory` if a growth is refused.
     fn make_room(&mut self, count: usize) -> Result<(), OutOfMemory>
         ensures parts { self.new.parts.items ≡ self.old.parts.items }
-        ensures starts { self.new.starts.items ≡ self.old.starts.items }
         ensures offsets { self.new.offsets.items ≡ self.old.offsets.items }
         ensures heavy { self.new.heavy ≡ self.old.heavy }
-        ensures stay { self.new.blocks ≡ self.old.blocks }
+        ensures stay { self.new.begins.value ≡ self.old.begins.value }
         ensures room { OnOk result (length self.new.parts.items + count ≤ vec_capacity self.new.parts) }
-        ensures starts_room { OnOk result (length self.new.starts.items + count ≤ vec_capacity self.new.starts) }
         ensures offsets_room { OnOk result (length self.new.offsets.items + count ≤ vec_capacity self.new.offsets) }
     {
         self.parts.reserve(count)?;
-        self.starts.reserve(count)?;
         self.offsets.reserve(count)?;
         Ok(())
     }
 
-    // Blocks for the parts that there are then, if new parts do not begin where those did that give way. O(p). `OutOfMemory` if a growth is
-    // refused.
-    fn blocks_after(&self, alloc: Global, new: &NewFace) -> Result<Option<Blocks>, OutOfMemory>
+    // Where the parts begin that there are then: `None` if new parts begin where those did that give way, so that all begins stay. This takes
+    // O(k) for k new parts, and else O(p) for p parts. `OutOfMemory` if a growth is refused.
+    fn begins_after(
+        &self,
+        alloc: Global,
+        new: &NewFace,
+    ) -> Result<Option<Arc<PartBegins>>, OutOfMemory>
         requires order { new.now.first ≤ new.now.end }
         requires within { new.now.end ≤ length self.now.parts.items }
-        ensures { IfOk result (λ blocks. blocks ≡ None
+        requires neighbours { AreNeighbours 1
+            (with_parts (spans_of self.now.parts.items) new.now.first new.now.end (spans_of new.now.parts.items)) leaf_end }
+        requires faces { BeginFaces (with_parts (spans_of self.now.parts.items) new.now.first new.now.end (spans_of new.now.parts.items)) }
+        ensures stay { IfOk result (λ begins. begins ≡ None
             → starts_of (with_parts (spans_of self.now.parts.items) new.now.first new.now.end (spans_of new.now.parts.items))
-            ≡ self.now.starts.items) }
+            ≡ self.now.begins.value.starts.items) }
+        ensures made { IfOkSome result (λ begins. begins.value.starts.items
+            ≡ starts_of (with_parts (spans_of self.now.parts.items) new.now.first new.now.end (spans_of new.now.parts.items))) }
     {
-        let count = self.parts.len().saturating_add(new.parts.len());
-        room_for(alloc, count, &self.starts[new.first..new.end], &new.parts)
+        let begins = &*self.begins;
+        if begin_at(&new.parts, &begins.starts[new.first..new.end]) {
+            return Ok(None);
+        }
+        let starts = starts_with(alloc, &begins.starts, new.first, new.end, &new.parts)?;
+        Ok(Some(Arc::new(alloc, PartBegins::new(alloc, starts)?)?))
     }
 
-    /// A copy of the table, which shares its parts and heavy pairs, and has room for a few parts more. O(p) for p parts. `OutOfMemory` if a
-    /// growth is refused, or a part or the heavy pairs of a face are shared too often.
+    /// A copy of the table, which shares its parts, where they begin, and its heavy pairs, and has room for a few parts more. O(p) for p
+    /// parts, since each counts its sharers. `OutOfMemory` if a growth is refused, or what it shares is shared too often.
     pub fn copied(&self, alloc: Global) -> Result<FacedTable, OutOfMemory>
         ensures { IfOk result (λ table. ⟦<FacedTable as RangeTable>⟧.pairs table ≡ ⟦<FacedTable as RangeTable>⟧.pairs self.now) }
     {
         let parts = shared_parts(alloc, &self.parts)?;
-        let starts = copy_of(alloc, &self.starts)?;
         let offsets = copy_of(alloc, &self.offsets)?;
-        let blocks = self.blocks.copied(alloc)?;
+        let begins = self.begins.clone()?;
         let heavy = self.heavy.clone()?;
         Ok(FacedTable {
             parts,
             offsets,
-            starts,
-            blocks,
-            faces: self.faces,
+            begins,
             count: self.count,
             heavy,
         })
@@ -526,21 +527,17 @@ impl FacedTable {
         ensures heavy { IfOk result (λ table. table.heavy ≡ heavy) }
     {
         let starts = begins_of(alloc, &parts)?;
+        let begins = Arc::new(alloc, PartBegins::new(alloc, starts)?)?;
         let mut offsets = uncounted(alloc, parts.len())?;
-        let mut blocks = Blocks::room(alloc, parts.len())?;
         let layout = Layout {
             parts: &parts,
             heavy: &heavy,
         };
         let count = layout.count_from(0, parts.len(), &mut offsets);
-        let faces = first_parts(&starts);
-        blocks.count(&starts);
         Ok(FacedTable {
             parts,
             offsets,
-            starts,
-            blocks,
-            faces,
+            begins,
             count,
             heavy,
         })
@@ -551,10 +548,11 @@ impl FacedTable {
         requires { face < 6 }
         ensures neighbours { AreNeighbours (face_begin face) (spans_of result.now) (face_begin (face + 1)) }
         ensures pairs { held_in (spans_of result.now) ≡ held_on face (held_in (spans_of self.now.parts.items)) }
-        ensures slice { spans_of result.now ≡ parts_of_face (spans_of self.now.parts.items) self.now.faces face }
-        ensures heavy_places { heavy_places_of result.now ≡ of_face (heavy_places_of self.now.parts.items) self.now.faces face }
+        ensures slice { spans_of result.now ≡ parts_of_face (spans_of self.now.parts.items) self.now.begins.value.faces face }
+        ensures heavy_places { heavy_places_of result.now ≡ of_face (heavy_places_of self.now.parts.items) self.now.begins.value.faces face }
     {
-        &self.parts[self.faces[face]..self.faces[face + 1]]
+        let faces = &self.begins.faces;
+        &self.parts[faces[face]..faces[face + 1]]
     }
 
     // How many parts there are.
@@ -570,8 +568,9 @@ impl FacedTable {
         requires { part < length (spans_of self.now.parts.items) }
         ensures { result ≡ (table_of (spans_of self.now.parts.items) part).to }
     {
-        if part < self.starts.len() - 1 {
-            self.starts[part + 1]
+        let starts = &self.begins.starts;
+        if part < starts.len() - 1 {
+            starts[part + 1]
         } else {
             LEAF_END
         }
@@ -742,7 +741,7 @@ impl FacedTable {
             result
             (contents_at (table_of (spans_of self.now.parts.items) part).from (heavy_in self.now.heavy)) }
     {
-        match FaceHeavyPlace::there(self.parts[part].heavy_place(), self.starts[part]) {
+        match FaceHeavyPlace::there(self.parts[part].heavy_place(), self.begins.starts[part]) {
             Some(place) => Some(FacedPlace::Heavy(place)),
             None => None,
         }

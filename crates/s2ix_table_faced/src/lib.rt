@@ -20,6 +20,7 @@ mod layout;
 mod looking;
 mod offset;
 mod pair_reader;
+mod part_begins;
 mod part_place;
 mod read_faces;
 mod shares_chains;

@@ -5,7 +5,7 @@ ghost use Rattle.s2ix_table_walk.specs.Contents.{contents_at};
 ghost use Rattle.s2ix_table_walk.specs.Places.{LeadsTo};
 ghost use Rattle.s2ix_table_faced.specs.PartPlaces.{faced_chain};
 ghost use Rattle.s2ix_table_spans.specs.SpanTable.{IsSpanTable};
-ghost use Rattle.s2ix_table_spans.specs.Starts.{IsAmong, IsLastStart};
+ghost use Rattle.s2ix_table_spans.specs.Starts.{IsLastStart};
 ghost use Rattle.s2ix_table_walk.specs.Table.{IsFound, range_at};
 ghost use Rattle.s2ix_table_queries.specs.LeafContents.{AreContents};
 ghost use Rattle.s2ix_table_parts.specs.FaceSpans.{spans_of, table_of};
@@ -13,11 +13,9 @@ ghost use Rattle.s2ix_table_faced.specs.Offsets.{HasRange};
 
 use crate::faced_table::FacedTable;
 use crate::part_place::FacedPlace;
-use crate::starts::last_by;
 use s2id_core::CellId;
 use s2ix_table_queries::{BATCH, Bookmark, LeafContents, RangeTable};
 use s2ix_table_spans::{SpanTable, is_last_start, step_ahead};
-use s2ix_table_walk::Window;
 
 // The lists of more parts than this are out of the processor's cache.
 const MANY_PARTS: usize = 512;
@@ -37,26 +35,18 @@ impl FacedTable {
         self.span(part.min(self.part_count() - 1))
     }
 
-    // A few parts, of which one has a leaf. O(1).
-    #[inline]
-    fn parts_with(&self, leaf: CellId) -> Window
-        ensures { IsAmong self.now.starts.items (raw_of leaf) result.first result.size }
-    {
-        self.blocks.parts_with(&self.starts, leaf.raw())
-    }
-
     // The part that has a leaf. O(log p).
     #[inline]
     pub(crate) fn part_with(&self, leaf: CellId) -> usize
-        ensures { IsLastStart self.now.starts.items (raw_of leaf) result }
+        ensures { IsLastStart self.now.begins.value.starts.items (raw_of leaf) result }
     {
-        last_by(&self.starts, leaf.raw(), self.parts_with(leaf))
+        self.begins.part_with(leaf.raw())
     }
 
     // The place in a part's table of the range that has a leaf. O(log n).
     #[inline]
     pub(crate) fn found_in(&self, part: usize, leaf: CellId) -> usize
-        requires { IsLastStart self.now.starts.items (raw_of leaf) part }
+        requires { IsLastStart self.now.begins.value.starts.items (raw_of leaf) part }
         ensures { IsFound (table_of (spans_of self.now.parts.items) part).ranges result (raw_of leaf) }
     {
         let span = self.span(part);
@@ -70,7 +60,7 @@ impl FacedTable {
     // The same, quicker if `near` is the place of that range or of one soon before it. Any number is accepted.
     #[inline(always)]
     fn found_from(&self, part: usize, leaf: CellId, near: usize) -> usize
-        requires { IsLastStart self.now.starts.items (raw_of leaf) part }
+        requires { IsLastStart self.now.begins.value.starts.items (raw_of leaf) part }
         ensures { IsFound (table_of (spans_of self.now.parts.items) part).ranges result (raw_of leaf) }
     {
         let span = self.span(part);
@@ -85,7 +75,7 @@ impl FacedTable {
     #[inline]
     pub(crate) fn first_found(&self, leaf: CellId, part: usize, found: usize) -> Option<FacedPlace>
         requires leaf { level_of leaf ≡ 30 }
-        requires part { IsLastStart self.now.starts.items (raw_of leaf) part }
+        requires part { IsLastStart self.now.begins.value.starts.items (raw_of leaf) part }
         requires found { IsFound (table_of (spans_of self.now.parts.items) part).ranges found (raw_of leaf) }
         ensures { LeadsTo (faced_chain (spans_of self.now.parts.items) self.now.heavy) result
             (contents_at (raw_of leaf) (⟦<FacedTable as RangeTable>⟧.pairs self.now)) }
@@ -96,13 +86,14 @@ impl FacedTable {
     // Returns the bookmark itself if its part has the leaf, else one with the right part and no range.
     #[inline(always)]
     fn part_near(&self, leaf: CellId, bookmark: Bookmark) -> Bookmark
-        ensures { IsLastStart self.now.starts.items (raw_of leaf) result.part }
+        ensures { IsLastStart self.now.begins.value.starts.items (raw_of leaf) result.part }
     {
-        if is_last_start(&self.starts, leaf.raw(), bookmark.part) {
+        let begins = &*self.begins;
+        if is_last_start(&begins.starts, leaf.raw(), bookmark.part) {
             return bookmark;
         }
         Bookmark {
-            part: self.part_with(leaf),
+            part: begins.part_with(leaf.raw()),
             ..Bookmark::none()
         }
     }
@@ -110,7 +101,7 @@ impl FacedTable {
     // The bookmark of a leaf's range, quicker if `bookmark` has its part, and quickest if it has that range or one soon before it.
     #[inline(always)]
     pub(crate) fn found_near(&self, leaf: CellId, bookmark: Bookmark) -> Bookmark
-        ensures part { IsLastStart self.now.starts.items (raw_of leaf) result.part }
+        ensures part { IsLastStart self.now.begins.value.starts.items (raw_of leaf) result.part }
         ensures range { IsFound (table_of (spans_of self.now.parts.items) result.part).ranges result.range (raw_of leaf) }
     {
         let near = self.part_near(leaf, bookmark);
@@ -144,8 +135,9 @@ impl FacedTable {
     pub(crate) fn rise_closely(&self, leaves: &[CellId]) -> bool {
         match (leaves.first(), leaves.last()) {
             (Some(first), Some(last)) => {
-                let first = self.part_with(*first);
-                self.part_with(*last).wrapping_sub(first) < NEAR_PARTS && are_rising(leaves)
+                let begins = &*self.begins;
+                let first = begins.part_with(first.raw());
+                begins.part_with(last.raw()).wrapping_sub(first) < NEAR_PARTS && are_rising(leaves)
             }
             _ => true,
         }
@@ -159,11 +151,12 @@ impl FacedTable {
         requires room { length leaves.now ≤ length bookmarks.old }
         ensures { length bookmarks.new ≡ length bookmarks.old }
     {
-        let mut lists = [self.starts.as_slice(); BATCH];
+        let begins = &*self.begins;
+        let mut lists = [begins.starts.as_slice(); BATCH];
         let mut parts = [0; BATCH];
         let mut most = 0;
         for (k, leaf) in leaves.iter().enumerate() {
-            let among = self.parts_with(*leaf);
+            let among = begins.parts_with(leaf.raw());
             parts[k] = among.first;
             most = most.max(among.size);
         }

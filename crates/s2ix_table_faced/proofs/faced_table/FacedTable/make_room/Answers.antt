@@ -8,16 +8,10 @@ pub invariant_of-self : goal.invariant_of-self
 invariant_of-self c =
     let t = c.args.self.now in
     let is = same_lists (ap spans_of c.reserve.ensures.items) (ap heavy_places_of c.reserve.ensures.items) refl refl (sound_of t) in
-    record { joined = is.joined; blocked = is.blocked; layered = is.layered; rises = is.rises; table = is.table; bordered = is.bordered; once = is.once }
-
-pub invariant_of-self-in-Break-branch-2 : goal.invariant_of-self-in-Break-branch-2
-invariant_of-self-in-Break-branch-2 c =
-    let t = c.args.self.now in
-    let is = same_lists (ap spans_of c.reserve.ensures.items) (ap heavy_places_of c.reserve.ensures.items) c.reserve-2.ensures.items refl (sound_of t) in
-    record { joined = is.joined; blocked = is.blocked; layered = is.layered; rises = is.rises; table = is.table; bordered = is.bordered; once = is.once }
+    record { joined = is.joined; layered = is.layered; rises = is.rises; table = is.table; bordered = is.bordered; once = is.once }
 
 pub invariant_of-self-2 : goal.invariant_of-self-2
 invariant_of-self-2 c =
     let t = c.args.self.now in
-    let is = same_lists (ap spans_of c.reserve.ensures.items) (ap heavy_places_of c.reserve.ensures.items) c.reserve-2.ensures.items c.reserve-3.ensures.items (sound_of t) in
-    record { joined = is.joined; blocked = is.blocked; layered = is.layered; rises = is.rises; table = is.table; bordered = is.bordered; once = is.once }
+    let is = same_lists (ap spans_of c.reserve.ensures.items) (ap heavy_places_of c.reserve.ensures.items) refl c.reserve-2.ensures.items (sound_of t) in
+    record { joined = is.joined; layered = is.layered; rises = is.rises; table = is.table; bordered = is.bordered; once = is.once }

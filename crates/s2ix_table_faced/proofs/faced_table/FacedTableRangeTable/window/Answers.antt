@@ -1,25 +1,22 @@
-use Rattle.std.proofs.Common.{◌≡◌, ℕ, ◌+◌, ◌-◌, ◌<◌, ◌≤◌, List, get_or, length, AllPairs, sym, ap, arith, subst}
+use Rattle.std.proofs.Common.{◌≡◌, ℕ, ◌+◌, ◌-◌, ◌<◌, ◌≤◌, get_or, length, sym, ap, arith, subst}
 use Rattle.s2ix_table_walk.specs.LeafWindows.{HaveLeaves}
 use Rattle.s2ix_table_spans.specs.SpanTable.{SpanRanges}
 use Rattle.s2ix_table_spans.specs.Starts.{IsAmong}
 use Rattle.s2ix_table_faced.specs.declared.offset.Offset.{Offset}
+use Rattle.s2ix_table_faced.specs.declared.part_begins.PartBegins.{PartBegins}
 use Rattle.s2ix_table_parts.specs.FaceSpans.{spans_of, table_of}
 use Rattle.s2ix_table_faced.specs.Layout.{ranges_of}
-use Rattle.s2ix_table_faced.proofs.FirstParts.{leaf_before_end, length_starts, rising_starts}
+use Rattle.s2ix_table_faced.proofs.FirstParts.{leaf_before_end, length_starts}
 use Rattle.s2ix_table_faced.proofs.Reading.{no_offset, many_offsets, many_places, offset_read, ends_few}
 use Rattle.s2ix_table_faced.proofs.Stretches.{parts_window}
 use Rattle.s2ix_table_faced.proofs.faced_table.FacedTableRangeTable.window.Goals as goal
 use Rattle.s2ix_table_faced.proofs.faced_table.FacedTableRangeTable.window.Goals.{After-parts_with-parts, After-range_count}
 
-pub parts_with-parts-requires-clause-rises : goal.parts_with-parts-requires-clause-rises
-parts_with-parts-requires-clause-rises c =
-    subst (λ (ns : List ℕ). AllPairs (λ a b. a < b) ns) (sym c.deref.ensures.value) (rising_starts c.args.self.now.joined)
-
 -- the parts that have the leaf among them
 parts_are : (c : After-parts_with-parts)
-    → IsAmong c.args.self.now.starts.items c.args.leaf c.parts_with-parts.result.first c.parts_with-parts.result.size
+    → IsAmong c.args.self.now.begins.value.starts.items c.args.leaf c.parts_with-parts.result.first c.parts_with-parts.result.size
 parts_are c =
-    subst (λ (ns : List ℕ). IsAmong ns c.args.leaf c.parts_with-parts.result.first c.parts_with-parts.result.size) c.deref.ensures.value
+    subst (λ (b : PartBegins). IsAmong b.starts.items c.args.leaf c.parts_with-parts.result.first c.parts_with-parts.result.size) c.deref.ensures
     c.parts_with-parts.ensures
 
 -- the last one of these is a part
@@ -54,8 +51,8 @@ ranges_are : (c : After-range_count)
 ranges_are c =
     let t = c.args.self.now in
     let ranges = ranges_of t.parts.items t.heavy in
-    let parts = subst (λ (ns : List ℕ). IsAmong ns c.args.leaf c.parts_with-parts.result.first c.parts_with-parts.result.size)
-    c.deref.ensures.value c.parts_with-parts.ensures in
+    let parts = subst (λ (b : PartBegins). IsAmong b.starts.items c.args.leaf c.parts_with-parts.result.first c.parts_with-parts.result.size)
+    c.deref.ensures c.parts_with-parts.ensures in
     let some = parts.some in
     let within = parts.within in
     let many = length_starts t.joined in

@@ -4,7 +4,7 @@ use Rattle.std.proofs.lemmas.List.{get_or-map, length-map}
 use Rattle.s2ix_table_spans.specs.SpanTable.{SpanRanges}
 use Rattle.s2ix_table_parts.specs.FaceSpans.{no_table, spans_of, starts_of}
 use Rattle.s2ix_table_parts.proofs.Shared.{many_shared, seen_at}
-use Rattle.s2ix_table_faced.proofs.blocks.begin_at.Goals as goal
+use Rattle.s2ix_table_faced.proofs.part_begins.begin_at.Goals as goal
 
 -- one start more is alike
 alike_next : (xs ys : List ℕ) (n : ℕ) → take n xs ≡ take n ys → n < length xs → n < length ys → get_or xs n 0 ≡ get_or ys n 0
