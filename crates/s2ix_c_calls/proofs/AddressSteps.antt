@@ -36,8 +36,8 @@ use Rattle.std.specs.Global.{Global}
 use Rattle.std.specs.contracts.impls.GlobalAllocator.TheImpl.{ghosts}
 use Rattle.std.specs.contracts.boxed.Box as box
 use Rattle.std.proofs.boxed.Box.TheLaws as box_laws
-use Rattle.s2ix_edit.specs.contracts.store.Store as store
-use Rattle.s2ix_edit.proofs.store.Store.TheLaws as store_laws
+use Rattle.s2ix_edit_store.specs.contracts.store.Store as store
+use Rattle.s2ix_edit_store.proofs.store.Store.TheLaws as store_laws
 use denote.RattleType.{RattleType}
 use Rattle.s2ix_edit_plan.specs.State.{State}
 use Rattle.s2ix_c_calls.specs.Address.{owned_at}

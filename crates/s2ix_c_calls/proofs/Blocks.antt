@@ -4,7 +4,7 @@ use Rattle.std.proofs.Math.Seq.{drop-append-add, drop-drop, take-append-add}
 use Rattle.std.proofs.lemmas.List.{append-nil, length-take, length-take-le, map-append, take_all}
 use Rattle.s2ix_bag_pairs.specs.Collection.{Collection}
 use Rattle.s2ix_bag_pairs.specs.declared.pair.Held.{Held}
-use Rattle.s2ix_table_faced.proofs.ReadBlocks.{with_block}
+use Rattle.s2ix_table_kept.proofs.ReadBlocks.{with_block}
 use Rattle.s2ix_c_calls.proofs.Filling.{empty}
 
 -- the first `n` items of a buffer's part from `count` on were written

@@ -5,7 +5,7 @@ use Rattle.s2id_core.proofs.Lists.{at_head}
 use Rattle.s2ix_bag_pairs.specs.Collection.{Collection}
 use Rattle.s2ix_table_walk.specs.LabelList.{label_list}
 use Rattle.s2ix_table_walk.proofs.LabelList.{label_list_is}
-use Rattle.s2ix_edit.specs.HeldLabels.{held_labels, total_of}
+use Rattle.s2ix_edit_store.specs.HeldLabels.{held_labels, total_of}
 use Rattle.s2ix_c_calls.specs.HeldLabels.{label_row_of}
 
 pub some_labels : (hs : Collection) → hs ≢ [] → map label_row_of (held_labels hs) ≢ []

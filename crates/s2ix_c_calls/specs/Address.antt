@@ -4,7 +4,7 @@ use Rattle.std.specs.Coded.{Coded, coded_option}
 use Rattle.std.specs.Box.Ownership.{box_owns}
 use Rattle.std.specs.Global.{Global}
 use Rattle.std.specs.contracts.impls.GlobalAllocator.TheImpl.{ghosts}
-use Rattle.s2ix_edit.specs.contracts.store.Store.{the_row}
+use Rattle.s2ix_edit_store.specs.contracts.store.Store.{the_row}
 use Rattle.s2ix_edit_plan.specs.State.{State}
 use base.Fml.{Fml, ftrue}
 use denote.RawPtr.{Ptr}

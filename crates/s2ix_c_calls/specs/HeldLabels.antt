@@ -1,8 +1,8 @@
 -- The labels that a store holds pairs of.
 use Rattle.std.specs.Prelude.{List, map}
 use Rattle.s2ix_bag_pairs.specs.Label.{value_of}
-use Rattle.s2ix_edit.specs.declared.held_labels.HeldLabel.{HeldLabel}
-use Rattle.s2ix_edit.specs.HeldLabels.{held_labels}
+use Rattle.s2ix_edit_store.specs.declared.held_labels.HeldLabel.{HeldLabel}
+use Rattle.s2ix_edit_store.specs.HeldLabels.{held_labels}
 use Rattle.s2ix_edit_plan.specs.State.{State}
 use Rattle.s2ix_c_calls.specs.declared.held_labels.LabelRow.{LabelRow}
 

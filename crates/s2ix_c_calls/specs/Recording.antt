@@ -5,10 +5,10 @@ use Rattle.s2ix_bag_lists.specs.Entries.{change_fault}
 use Rattle.s2ix_bag_pairs.specs.declared.pair.Entry.{Entry}
 use Rattle.s2ix_bag_pairs.specs.declared.pair.Pair.{Pair}
 use Rattle.s2ix_bag_pairs.specs.Change.{IsChangeList}
-use Rattle.s2ix_edit.specs.declared.record_error.RecordError.{RecordError}
-use Rattle.s2ix_edit.specs.declared.record_error.RecordError.TheVariants.{JournalFull, NoChange, Mismatch, TooManyCopies, TooManyPairs, OutOfMemory}
-use Rattle.s2ix_edit.specs.OneChange.{IsRecordRefusal, change_refusal}
-use Rattle.s2ix_edit.specs.Steps.{after_record}
+use Rattle.s2ix_edit_store.specs.declared.record_error.RecordError.{RecordError}
+use Rattle.s2ix_edit_store.specs.declared.record_error.RecordError.TheVariants.{JournalFull, NoChange, Mismatch, TooManyCopies, TooManyPairs, OutOfMemory}
+use Rattle.s2ix_edit_store.specs.OneChange.{IsRecordRefusal, change_refusal}
+use Rattle.s2ix_edit_store.specs.Steps.{after_record}
 use Rattle.s2ix_edit_plan.specs.State.{State}
 use Rattle.s2ix_c_calls.specs.declared.changes.EntryRow.{EntryRow}
 use Rattle.s2ix_c_calls.specs.Asked.{pair_numbered}

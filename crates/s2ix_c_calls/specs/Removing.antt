@@ -1,7 +1,7 @@
 -- Rows that are removed from the counts of a store.
 use Rattle.std.specs.Prelude.{◌≡◌, ◌≢◌, ℕ, None, List, length}
 use Rattle.s2ix_bag_pairs.specs.declared.pair.Held.{Held}
-use Rattle.s2ix_edit.specs.Steps.{after_removal}
+use Rattle.s2ix_edit_store.specs.Steps.{after_removal}
 use Rattle.s2ix_edit_plan.specs.declared.errors.RemoveError.{RemoveError}
 use Rattle.s2ix_edit_plan.specs.declared.errors.RemoveError.TheVariants.{JournalFull, NotHeld, NoChange, OutOfMemory}
 use Rattle.s2ix_edit_plan.specs.Removals.{IsRemoveRefusal, removal_change, removal_refusal}

@@ -8,7 +8,7 @@ use Rattle.s2ix_bag_pairs.specs.declared.limits.Limits.{Limits}
 use Rattle.s2ix_bag_pairs.specs.declared.pair.Entry.{Entry}
 use Rattle.s2ix_bag_pairs.specs.Limits.{pairs_limit, count_limit, changes_limit}
 use Rattle.s2ix_edit_plan.specs.State.{State, starting_at}
-use Rattle.s2ix_edit.specs.declared.history_error.HistoryError.TheVariants as history
+use Rattle.s2ix_edit_store.specs.declared.history_error.HistoryError.TheVariants as history
 use Rattle.s2ix_text.specs.declared.dump_error.DumpError.TheVariants as dump_error
 use Rattle.s2ix_text.specs.DumpFaults.{IsDumpError, dump_fault}
 use Rattle.s2ix_text.specs.declared.journal_error.JournalError.TheVariants as journal_error

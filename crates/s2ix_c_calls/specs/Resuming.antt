@@ -6,10 +6,10 @@ use Rattle.s2ix_bag_pairs.specs.declared.limits.Limits.{Limits}
 use Rattle.s2ix_bag_pairs.specs.declared.pair.Entry.{Entry}
 use Rattle.s2ix_bag_pairs.specs.Limits.{changes_limit}
 use Rattle.s2ix_edit_plan.specs.State.{State}
-use Rattle.s2ix_edit.specs.declared.history_error.HistoryError.{HistoryError}
-use Rattle.s2ix_edit.specs.declared.history_error.HistoryError.TheVariants.{OutOfMemory}
-use Rattle.s2ix_edit.specs.Given.{IsHistoryError, after_apply, apply_size, given_refusal, history_refusal, led_by, record_refusal}
-use Rattle.s2ix_edit.specs.Steps.{after_join, joined_last}
+use Rattle.s2ix_edit_store.specs.declared.history_error.HistoryError.{HistoryError}
+use Rattle.s2ix_edit_store.specs.declared.history_error.HistoryError.TheVariants.{OutOfMemory}
+use Rattle.s2ix_edit_store.specs.Given.{IsHistoryError, after_apply, apply_size, given_refusal, history_refusal, led_by, record_refusal}
+use Rattle.s2ix_edit_store.specs.Steps.{after_join, joined_last}
 use Rattle.s2ix_text.specs.DumpFaults.{IsDumpError, dump_fault}
 use Rattle.s2ix_text.specs.JournalFaults.{IsJournalError, journal_fault}
 use Rattle.s2ix_text_write.specs.Journal.{IsJournalText}

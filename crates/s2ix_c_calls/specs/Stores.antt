@@ -13,8 +13,8 @@ use Rattle.s2ix_edit_plan.specs.declared.edit.Edit.{Edit}
 use Rattle.s2ix_edit_plan.specs.Refusals.{edit_refusal}
 use Rattle.s2ix_edit_plan.specs.Rows.{rows_change, rows_refusal}
 use Rattle.s2ix_edit_plan.specs.State.{State, change_of, starting_at}
-use Rattle.s2ix_edit.specs.Steps.{after_edit, after_rows, after_undo, after_redo, undo_size, redo_size}
-use Rattle.s2ix_edit.specs.Store.{HasRoom}
+use Rattle.s2ix_edit_store.specs.Steps.{after_edit, after_rows, after_undo, after_redo, undo_size, redo_size}
+use Rattle.s2ix_edit_store.specs.Store.{HasRoom}
 use Rattle.s2ix_cli_run.specs.LineWants.{EditWants}
 use Rattle.s2ix_c_calls.specs.Asked.{AreAllCells, AreCells, AreRight, IsFirstNoCell, IsFirstWrong, LacksUnion, NameHeld}
 use Rattle.s2ix_c_calls.specs.declared.rows.Row.{Row}

@@ -4,9 +4,9 @@ use Rattle.std.specs.List.{slice_get}
 use Rattle.std.proofs.lemmas.List.Elements.{All-head, All-tail}
 use Rattle.std.proofs.lemmas.Option.{slice_get-get_or}
 use Rattle.s2ix_edit_plan.specs.State.{State, earlier, history_of, later}
-use Rattle.s2ix_edit.specs.Standing.{first_collection}
-use Rattle.s2ix_edit.specs.Store.{IsStore}
-use Rattle.s2ix_edit.proofs.Along.{length_of_history}
+use Rattle.s2ix_edit_store.specs.Standing.{first_collection}
+use Rattle.s2ix_edit_store.specs.Store.{IsStore}
+use Rattle.s2ix_edit_store.proofs.Along.{length_of_history}
 use Rattle.s2ix_text_write.specs.Dump.{dump_text}
 use Rattle.s2ix_text_write.specs.Journal.{journal_text}
 use Rattle.s2ix_cli_files.specs.Answers.{ReplayAnswers, RewindAnswers}

@@ -1,7 +1,7 @@
 -- What the definitions say of one another: each of these is proved, and told in a sentence, by a clause of a function of `laws`.
 use Rattle.std.specs.Prelude.{◌≡◌, ℕ, true, List, [], ◌∷◌, All}
 use Rattle.s2ix_edit_plan.specs.State.{State}
-use Rattle.s2ix_edit.specs.Store.{IsStore}
+use Rattle.s2ix_edit_store.specs.Store.{IsStore}
 use Rattle.s2ix_cli_files.specs.Answers.{ReplayAnswers, RewindAnswers}
 use Rattle.s2ix_cli_files.specs.Widest.{widest}
 use Rattle.s2ix_cli_script.specs.declared.instruction.Instruction.TheVariants as asks

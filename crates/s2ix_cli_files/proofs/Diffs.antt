@@ -10,11 +10,11 @@ use Rattle.s2ix_bag_pairs.proofs.Differences.{between_is_change, changed_between
 use Rattle.s2ix_bag_pairs.proofs.Inverse.{changed_inverse_between, inverse_between}
 use Rattle.s2ix_bag_lists.specs.Apply.{apply_refusal}
 use Rattle.s2ix_edit_plan.specs.State.{State, history_of}
-use Rattle.s2ix_edit.specs.Given.{led_by}
-use Rattle.s2ix_edit.specs.Steps.{recorded_alone, with_held}
-use Rattle.s2ix_edit.specs.Store.{CanGoBack, IsStore}
-use Rattle.s2ix_edit.proofs.Between.{alone_few, between_taken}
-use Rattle.s2ix_edit.proofs.Journals.{done_is_taken_back, done_leads, done_leads_back}
+use Rattle.s2ix_edit_store.specs.Given.{led_by}
+use Rattle.s2ix_edit_store.specs.Steps.{recorded_alone, with_held}
+use Rattle.s2ix_edit_store.specs.Store.{CanGoBack, IsStore}
+use Rattle.s2ix_edit_store.proofs.Between.{alone_few, between_taken}
+use Rattle.s2ix_edit_store.proofs.Journals.{done_is_taken_back, done_leads, done_leads_back}
 use Rattle.s2ix_text_write.specs.Dump.{dump_text}
 use Rattle.s2ix_text_write.specs.Journal.{journal_text}
 use Rattle.s2ix_cli_files.specs.declared.refusal.Refusal.{Refusal}

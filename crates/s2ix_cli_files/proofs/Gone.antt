@@ -2,9 +2,9 @@
 use Rattle.std.proofs.Common.{◌≡◌, [], Ok, true, refl, sym, ap₂, ◌∙◌}
 use Rattle.s2ix_bag.specs.Replay.{rewound}
 use Rattle.s2ix_edit_plan.specs.State.{State}
-use Rattle.s2ix_edit.specs.Given.{led_by}
-use Rattle.s2ix_edit.specs.Store.{IsStore}
-use Rattle.s2ix_edit.proofs.Journals.{done_is_taken_back}
+use Rattle.s2ix_edit_store.specs.Given.{led_by}
+use Rattle.s2ix_edit_store.specs.Store.{IsStore}
+use Rattle.s2ix_edit_store.proofs.Journals.{done_is_taken_back}
 use Rattle.s2ix_text_write.specs.Dump.{dump_text}
 use Rattle.s2ix_text_write.specs.Journal.{journal_text}
 use Rattle.s2ix_text_write.proofs.Dumps.{bag_dump}

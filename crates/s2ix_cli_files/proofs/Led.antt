@@ -6,9 +6,9 @@ use Rattle.s2ix_bag_pairs.specs.Collection.{LimitedCollection}
 use Rattle.s2ix_bag_pairs.specs.Limits.{changes_limit}
 use Rattle.s2ix_bag_pairs.specs.declared.limits.Limits.{Limits}
 use Rattle.s2ix_bag_pairs.specs.declared.pair.Entry.{Entry}
-use Rattle.s2ix_edit.specs.declared.history_error.HistoryError.{HistoryError}
-use Rattle.s2ix_edit.specs.declared.history_error.HistoryError.TheVariants as history
-use Rattle.s2ix_edit.specs.Given.{first_empty_from, record_refusal}
+use Rattle.s2ix_edit_store.specs.declared.history_error.HistoryError.{HistoryError}
+use Rattle.s2ix_edit_store.specs.declared.history_error.HistoryError.TheVariants as history
+use Rattle.s2ix_edit_store.specs.Given.{first_empty_from, record_refusal}
 use Rattle.s2ix_text_write.specs.Journal.{IsWritable}
 use Rattle.s2ix_text.specs.Journals.{IsJournal}
 

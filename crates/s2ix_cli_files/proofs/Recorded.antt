@@ -3,9 +3,9 @@ use Rattle.std.proofs.Common.{◌≡◌, List, None, arith}
 use Rattle.s2ix_bag_pairs.specs.declared.limits.Limits.{Limits}
 use Rattle.s2ix_bag_pairs.specs.declared.pair.Entry.{Entry}
 use Rattle.s2ix_edit_plan.specs.State.{State}
-use Rattle.s2ix_edit.specs.Recorded.{IsRecorded}
-use Rattle.s2ix_edit.specs.Store.{IsStore}
-use Rattle.s2ix_edit.proofs.Recorded.{done_recorded, recorded_within_widest}
+use Rattle.s2ix_edit_store.specs.Recorded.{IsRecorded}
+use Rattle.s2ix_edit_store.specs.Store.{IsStore}
+use Rattle.s2ix_edit_store.proofs.Recorded.{done_recorded, recorded_within_widest}
 use Rattle.s2ix_text_write.specs.Journal.{IsJournalText, IsWritable, journal_text}
 use Rattle.s2ix_text_write.proofs.Journals.{one_journal, written_journal}
 use Rattle.s2ix_text.specs.JournalFaults.{journal_fault}

@@ -4,16 +4,16 @@ use Rattle.std.specs.List.{slice_get}
 use Rattle.std.proofs.lemmas.Option.{get_or_from_slice_get, slice_get_within}
 use Rattle.s2ix_bag_pairs.specs.Collection.{Collection, IsBag}
 use Rattle.s2ix_edit_plan.specs.State.{State, history_of}
-use Rattle.s2ix_edit.specs.Steps.{with_held}
-use Rattle.s2ix_edit.specs.Store.{IsStore}
-use Rattle.s2ix_edit.proofs.Along.{history_within}
+use Rattle.s2ix_edit_store.specs.Steps.{with_held}
+use Rattle.s2ix_edit_store.specs.Store.{IsStore}
+use Rattle.s2ix_edit_store.proofs.Along.{history_within}
 use Rattle.s2ix_text_write.specs.Dump.{dump_text}
 use Rattle.s2ix_text_write.specs.Journal.{journal_text}
 use Rattle.s2ix_text_write.proofs.Dumps.{bag_dump}
 use Rattle.s2ix_cli_files.specs.Answers.{ReplayAnswers, RewindAnswers}
 use Rattle.s2ix_cli_files.specs.Reads.{ReplayLeads, RewindLeads}
 use Rattle.s2ix_cli_files.specs.Widest.{widest}
-use Rattle.s2ix_edit.proofs.Journals.{done_is_taken_back, done_leads, done_leads_back}
+use Rattle.s2ix_edit_store.proofs.Journals.{done_is_taken_back, done_leads, done_leads_back}
 use Rattle.s2ix_cli_files.proofs.Recorded.{done_has_journal, done_is_journal}
 use Rattle.s2ix_cli_files.proofs.There.{leads_home}
 use Rattle.s2ix_cli_files.proofs.Widened.{widened, widened_is_store}

@@ -9,7 +9,7 @@ use Rattle.s2ix_bag_lists.specs.Apply.{apply_refusal}
 use Rattle.s2ix_bag_lists.proofs.Lengths.{AreAfterWithin}
 use Rattle.s2ix_bag_lists.proofs.Refusals.{refusal_of_taken, taken_from_none}
 use Rattle.s2ix_edit_plan.specs.State.{State}
-use Rattle.s2ix_edit.specs.Store.{CanGoBack, CanGoOn, IsStore}
+use Rattle.s2ix_edit_store.specs.Store.{CanGoBack, CanGoOn, IsStore}
 use Rattle.s2ix_cli_files.specs.Widest.{widest}
 
 abbrev holding : Limits → Collection → LimitedCollection

@@ -11,7 +11,7 @@ use Rattle.s2ix_text_parts.specs.Puts.{AppendsFront}
 use Rattle.s2ix_text_write.specs.Dump.{dump_text}
 use Rattle.s2ix_text_write.specs.Journal.{journal_text}
 use Rattle.s2ix_bag_pairs.specs.declared.pair.Entry.{Entry}
-use Rattle.s2ix_edit.specs.Steps.{recorded_alone}
+use Rattle.s2ix_edit_store.specs.Steps.{recorded_alone}
 use Rattle.s2ix_cli_files.specs.declared.refusal.Refusal.{Refusal}
 use Rattle.s2ix_cli_files.specs.declared.refusal.TextsError.{TextsError}
 use Rattle.s2ix_cli_files.specs.declared.refusal.TextsError.TheVariants.{Refused, OutOfMemory}

@@ -4,8 +4,8 @@ use Rattle.s2ix_bag_pairs.specs.Collection.{Collection, LimitedCollection}
 use Rattle.s2ix_bag_pairs.specs.declared.limits.Limits.{Limits}
 use Rattle.s2ix_edit_plan.specs.State.{State, history_of}
 use Rattle.s2ix_bag.specs.Replay.{replay_refusal, replayed, rewind_refusal, rewound}
-use Rattle.s2ix_edit.specs.Steps.{with_held}
-use Rattle.s2ix_edit.specs.Store.{IsStore}
+use Rattle.s2ix_edit_store.specs.Steps.{with_held}
+use Rattle.s2ix_edit_store.specs.Store.{IsStore}
 use Rattle.s2ix_text_write.specs.Dump.{dump_text}
 use Rattle.s2ix_cli_files.specs.Answers.{Answer, DiffAnswers, ReplayAnswers, RewindAnswers}
 use Rattle.s2ix_cli_files.specs.Reads.{DumpReads}

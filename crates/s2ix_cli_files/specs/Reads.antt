@@ -18,7 +18,7 @@ use Rattle.s2ix_cli_files.specs.declared.refusal.Refusal.TheVariants.{Dump, Seco
 use Rattle.s2ix_cli_files.specs.declared.refusal.TextsError.TheVariants.{Refused}
 use Rattle.s2ix_bag_pairs.specs.Change.{change_between}
 use Rattle.s2ix_edit_plan.specs.State.{State}
-use Rattle.s2ix_edit.specs.Given.{led_by}
+use Rattle.s2ix_edit_store.specs.Given.{led_by}
 use Rattle.s2ix_cli_files.specs.Refusals.{error_of_replay}
 
 -- ---- one text

@@ -3,7 +3,7 @@ ghost use Rattle.std.specs.Prelude.{◌≡◌, None, Ok, IfErr, IfOk, OnOk, take
 ghost use Rattle.s2ix_bag.specs.Replay.{first_refusal, rewind_refusal, way_back, with_numbers};
 ghost use Rattle.s2ix_bag_pairs.specs.Collection.{LimitedCollection};
 ghost use Rattle.s2ix_bag_pairs.specs.Limits.{changes_limit};
-ghost use Rattle.s2ix_edit.specs.Given.{led_by, record_refusal};
+ghost use Rattle.s2ix_edit_store.specs.Given.{led_by, record_refusal};
 ghost use Rattle.s2ix_text.specs.DumpFaults.{dump_fault};
 ghost use Rattle.s2ix_text.specs.JournalFaults.{journal_fault};
 ghost use Rattle.s2ix_text_parts.specs.LineFaults.{IsFromLine};
@@ -14,7 +14,8 @@ use crate::refusal::{Refusal, TextsError};
 use s2ix_bag::{replay, rewind};
 use s2ix_bag_changes::{Bag, Change};
 use s2ix_bag_pairs::Limits;
-use s2ix_edit::{HistoryError, Store};
+use s2ix_edit_store::{HistoryError, StoreOver};
+use s2ix_table_kept::KeptTable;
 use s2ix_text::{DumpError, read_dump, read_journal};
 use std::alloc::Global;
 
@@ -70,12 +71,12 @@ pub(crate) fn texts_rewound(
 }
 
 // The store that goes on from a dump, with the changes of a journal done.
-pub(crate) fn texts_resumed(
+pub(crate) fn texts_resumed<T: KeptTable>(
     alloc: Global,
     dump: &[u8],
     journal: &[u8],
     limits: Limits,
-) -> Result<Store, TextsError>
+) -> Result<StoreOver<T>, TextsError>
     ensures store { IfOk result (Resumes limits dump.now journal.now) }
     ensures first { OnOk result ((first : LimitedCollection) × TextsRewind limits dump.now journal.now (Ok first)) }
     ensures refused { IfErr result (IsRefusedBy (TextsRewind limits dump.now journal.now)) }
@@ -87,14 +88,14 @@ pub(crate) fn texts_resumed(
 }
 
 // The store of a bag and the changes that led to it, which it may record.
-fn store_led(alloc: Global, bag: Bag, changes: Vec<Change>) -> Result<Store, TextsError>
+fn store_led<T: KeptTable>(alloc: Global, bag: Bag, changes: Vec<Change>) -> Result<StoreOver<T>, TextsError>
     requires recordable { record_refusal (changes_limit bag.limits) changes.items ≡ None }
     ensures store { IfOk result (λ store. store ≡ led_by bag changes.items) }
     ensures accepted { OnOk result (rewind_refusal bag changes.items ≡ None) }
     ensures refused { IfErr result (IsRefusedBy (RewindLeads bag changes.items)) }
     ensures memory { IfErr result (IsWantOf (first_refusal bag (take 1 (way_back (with_numbers changes.items))) ≡ None)) }
 {
-    match Store::with_history(alloc, bag, changes) {
+    match StoreOver::with_history(alloc, bag, changes) {
         Ok(store) => Ok(store),
         Err(HistoryError::JournalFull) => unreachable!(),
         Err(HistoryError::NoChange { change: _ }) => unreachable!(),

@@ -13,7 +13,7 @@ use Rattle.s2ix_edit_plan.specs.Errors.{IsEditRefusal}
 use Rattle.s2ix_edit_plan.specs.declared.edit.Edit.{Edit}
 use Rattle.s2ix_edit_plan.specs.Refusals.{edit_refusal}
 use Rattle.s2ix_edit_plan.specs.State.{State, change_of}
-use Rattle.s2ix_edit.specs.Steps.{after_edit, after_undo, after_redo, undo_size, redo_size}
+use Rattle.s2ix_edit_store.specs.Steps.{after_edit, after_undo, after_redo, undo_size, redo_size}
 use Rattle.s2ix_cli_script.specs.RefusalNames.{edit_error_name, redo_error_name, undo_error_name}
 use Rattle.s2ix_cli_run.specs.Line.{IsAnswered}
 use Rattle.s2ix_cli_run.specs.Step.{edit_step, edit_step_at, no_step, ok_step, redo_step, redo_step_at, undo_step, undo_step_at, Step}

@@ -7,9 +7,9 @@ use Rattle.s2ix_edit_plan.specs.declared.errors.EditError.{EditError}
 use Rattle.s2ix_edit_plan.specs.declared.edit.Edit.{Edit}
 use Rattle.s2ix_edit_plan.specs.Refusals.{edit_refusal}
 use Rattle.s2ix_edit_plan.specs.State.{State}
-use Rattle.s2ix_edit.specs.Steps.{after_edit, after_undo, after_undo_of, last_done}
-use Rattle.s2ix_edit.specs.Store.{IsStore}
-use Rattle.s2ix_edit.proofs.Undone.{undo_of_edit}
+use Rattle.s2ix_edit_store.specs.Steps.{after_edit, after_undo, after_undo_of, last_done}
+use Rattle.s2ix_edit_store.specs.Store.{IsStore}
+use Rattle.s2ix_edit_store.proofs.Undone.{undo_of_edit}
 use Rattle.s2ix_table_walk.specs.Contents.{contents_at}
 use Rattle.s2ix_text_write.specs.Lists.{held_line, list_text}
 use Rattle.s2ix_cli_script.specs.declared.instruction.Instruction.{Instruction}

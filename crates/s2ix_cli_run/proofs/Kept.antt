@@ -7,11 +7,11 @@ use Rattle.s2ix_edit_plan.specs.declared.errors.EditError.{EditError}
 use Rattle.s2ix_edit_plan.specs.declared.edit.Edit.{Edit}
 use Rattle.s2ix_edit_plan.specs.Refusals.{edit_refusal}
 use Rattle.s2ix_edit_plan.specs.State.{State}
-use Rattle.s2ix_edit.specs.Standing.{first_collection}
-use Rattle.s2ix_edit.specs.Steps.{last_done, last_undone}
-use Rattle.s2ix_edit.specs.Store.{IsStore}
-use Rattle.s2ix_edit.proofs.Kept.{edit_keeps, redo_keeps, undo_keeps}
-use Rattle.s2ix_edit.proofs.Standing.{first_after_edit, first_after_redo, first_after_undo}
+use Rattle.s2ix_edit_store.specs.Standing.{first_collection}
+use Rattle.s2ix_edit_store.specs.Steps.{last_done, last_undone}
+use Rattle.s2ix_edit_store.specs.Store.{IsStore}
+use Rattle.s2ix_edit_store.proofs.Kept.{edit_keeps, redo_keeps, undo_keeps}
+use Rattle.s2ix_edit_store.proofs.Standing.{first_after_edit, first_after_redo, first_after_undo}
 use Rattle.s2ix_cli_script.specs.declared.line_fault.LineFault.{LineFault}
 use Rattle.s2ix_cli_script.specs.declared.instruction.Instruction.{Instruction}
 use Rattle.s2ix_cli_script.specs.declared.instruction.Instruction.TheVariants as asks

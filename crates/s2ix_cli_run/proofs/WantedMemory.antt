@@ -9,7 +9,7 @@ use Rattle.s2ix_edit_plan.specs.declared.edit.Edit.{Edit}
 use Rattle.s2ix_edit_plan.specs.Refusals.{asks_no_copies, edit_refusal, reverts}
 use Rattle.s2ix_edit_plan.specs.State.{State}
 use Rattle.s2ix_edit_plan.proofs.EachRefusal.{full_where}
-use Rattle.s2ix_edit.specs.Store.{HasRoom}
+use Rattle.s2ix_edit_store.specs.Store.{HasRoom}
 use Rattle.s2ix_cli_script.specs.declared.instruction.Instruction.{Instruction}
 use Rattle.s2ix_cli_script.specs.declared.line_fault.LineFault.{LineFault}
 use Rattle.s2ix_cli_script.specs.Named.{is_ok_with}

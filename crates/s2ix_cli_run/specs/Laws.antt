@@ -2,7 +2,7 @@
 -- clause of one.
 use Rattle.std.specs.Prelude.{◌≡◌, ℕ, true, List, [], ◌∷◌}
 use Rattle.s2ix_edit_plan.specs.State.{State}
-use Rattle.s2ix_edit.specs.Store.{IsStore}
+use Rattle.s2ix_edit_store.specs.Store.{IsStore}
 use Rattle.s2ix_cli_script.specs.declared.instruction.Instruction.{Instruction}
 use Rattle.s2ix_cli_script.specs.declared.instruction.Instruction.TheVariants as asks
 use Rattle.s2ix_cli_run.specs.Asking.{AsksFor, EditsAndUndoes, is_question}

@@ -11,7 +11,7 @@ use Rattle.s2ix_edit_plan.specs.declared.edit.Edit.{Edit}
 use Rattle.s2ix_edit_plan.specs.Refusals.{edit_refusal}
 use Rattle.s2ix_edit_plan.specs.Region.{common_of, only_of, region_of}
 use Rattle.s2ix_edit_plan.specs.State.{State, change_of}
-use Rattle.s2ix_edit.specs.Steps.{after_edit, after_forget, after_undo, after_redo, last_done, last_undone, undo_size, redo_size}
+use Rattle.s2ix_edit_store.specs.Steps.{after_edit, after_forget, after_undo, after_redo, last_done, last_undone, undo_size, redo_size}
 use Rattle.s2ix_cli_answers.specs.Answers.{neighbors_line, no_line, ok_line, path_line, square_line}
 use Rattle.s2ix_text_write.specs.Dump.{dump_text}
 use Rattle.s2ix_table_walk.specs.Contents.{contents_at}

@@ -14,7 +14,8 @@ use crate::run_end::RunEnd;
 use bstr::ByteSlice;
 use s2ix_cli_answers::write_no;
 use s2ix_cli_script::LineFault;
-use s2ix_edit::Store;
+use s2ix_edit_store::StoreOver;
+use s2ix_table_kept::KeptTable;
 use s2ix_text_parts::{RunFault, Sink};
 use std::alloc::Global;
 
@@ -28,9 +29,9 @@ pub(crate) enum PieceEnd {
 }
 
 // Carries out the lines that end in a piece, and holds what is left after them. With `stop` the first refused line is the last one.
-pub(crate) fn run_piece<K: Sink>(
+pub(crate) fn run_piece<T: KeptTable, K: Sink>(
     alloc: Global,
-    store: &mut Store,
+    store: &mut StoreOver<T>,
     sink: &mut K,
     held: &mut HeldLine,
     so_far: RunEnd,
@@ -64,9 +65,9 @@ pub(crate) fn run_piece<K: Sink>(
 }
 
 // Carries out what is held at the end of the input, which is its last line if it has a byte.
-pub(crate) fn run_last<K: Sink>(
+pub(crate) fn run_last<T: KeptTable, K: Sink>(
     alloc: Global,
-    store: &mut Store,
+    store: &mut StoreOver<T>,
     sink: &mut K,
     held: &mut HeldLine,
     so_far: RunEnd,
@@ -92,9 +93,9 @@ pub(crate) fn run_last<K: Sink>(
 
 // Carries out a line of which these are the last bytes. One that lies whole in them isn't copied.
 #[inline(always)]
-fn run_one<K: Sink>(
+fn run_one<T: KeptTable, K: Sink>(
     alloc: Global,
-    store: &mut Store,
+    store: &mut StoreOver<T>,
     sink: &mut K,
     held: &mut HeldLine,
     end: &[u8],
@@ -117,9 +118,9 @@ fn run_one<K: Sink>(
 
 // Carries out a line that is held whole.
 #[inline(never)]
-fn run_held<K: Sink>(
+fn run_held<T: KeptTable, K: Sink>(
     alloc: Global,
-    store: &mut Store,
+    store: &mut StoreOver<T>,
     sink: &mut K,
     held: &HeldLine,
 ) -> Result<LineOutcome, RunFault>

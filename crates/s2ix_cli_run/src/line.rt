@@ -13,7 +13,8 @@ use crate::steps::print_step;
 use s2id_cube::to_face_ij;
 use s2ix_cli_answers::{write_neighbors, write_no, write_ok, write_path, write_square};
 use s2ix_cli_script::{Instruction, LineError, meaning};
-use s2ix_edit::Store;
+use s2ix_edit_store::StoreOver;
+use s2ix_table_kept::KeptTable;
 use s2ix_text_parts::{RunFault, Sink};
 use s2ix_text_write::{write_dump, write_journal, write_list};
 use std::alloc::Global;
@@ -25,9 +26,9 @@ use std::alloc::Global;
 /// `OutOfMemory` if a growth was refused: nothing has changed then, and nothing was printed. `Write` if the sink failed: what the line does
 /// is done, and a front of its answer went out.
 #[tactic(auto, using(crate::proofs::WantedMemory::line_wants), unfolding(crate::specs::Step::step_of))]
-pub fn run_line<K: Sink>(
+pub fn run_line<T: KeptTable, K: Sink>(
     alloc: Global,
-    store: &mut Store,
+    store: &mut StoreOver<T>,
     sink: &mut K,
     line: &[u8],
 ) -> Result<LineOutcome, RunFault>
@@ -56,9 +57,9 @@ pub fn run_line<K: Sink>(
 ///
 /// `OutOfMemory` if a growth was refused: nothing has changed then, and nothing was printed. `Write` if the sink failed: what the
 /// instruction does is done, and a front of its answer went out.
-pub fn run_instruction<K: Sink>(
+pub fn run_instruction<T: KeptTable, K: Sink>(
     alloc: Global,
-    store: &mut Store,
+    store: &mut StoreOver<T>,
     sink: &mut K,
     instruction: Instruction,
 ) -> Result<LineOutcome, RunFault>

@@ -15,15 +15,16 @@ use s2id_core::CellId;
 use s2id_union::CellUnion;
 use s2ix_cli_answers::{write_contents, write_meeting, write_no, write_ranges};
 use s2ix_cli_script::not_leaf_name;
-use s2ix_edit::Store;
+use s2ix_edit_store::StoreOver;
+use s2ix_table_kept::KeptTable;
 use s2ix_table_queries::RangeTable;
 use s2ix_text_parts::{RunFault, Sink, put_parts};
 use s2ix_text_write::{export, write_list};
 use std::alloc::Global;
 
 // Prints what lies over a leaf.
-pub(crate) fn run_at<K: Sink>(
-    store: &Store,
+pub(crate) fn run_at<T: KeptTable, K: Sink>(
+    store: &StoreOver<T>,
     sink: &mut K,
     cell: CellId,
 ) -> Result<LineOutcome, RunFault>
@@ -42,8 +43,8 @@ pub(crate) fn run_at<K: Sink>(
 }
 
 // Prints the pairs that meet a target, each as it is found.
-pub(crate) fn print_meeting<K: Sink>(
-    store: &Store,
+pub(crate) fn print_meeting<T: KeptTable, K: Sink>(
+    store: &StoreOver<T>,
     sink: &mut K,
     target: &CellUnion,
 ) -> Result<LineOutcome, RunFault>
@@ -59,9 +60,9 @@ pub(crate) fn print_meeting<K: Sink>(
 }
 
 // Prints the labels of the pairs that meet a target.
-pub(crate) fn print_labels<K: Sink>(
+pub(crate) fn print_labels<T: KeptTable, K: Sink>(
     alloc: Global,
-    store: &Store,
+    store: &StoreOver<T>,
     sink: &mut K,
     target: &CellUnion,
 ) -> Result<LineOutcome, RunFault>
@@ -76,7 +77,7 @@ pub(crate) fn print_labels<K: Sink>(
 }
 
 // Prints the ranges of the store's table.
-pub(crate) fn print_ranges<K: Sink>(store: &Store, sink: &mut K) -> Result<LineOutcome, RunFault>
+pub(crate) fn print_ranges<T: KeptTable, K: Sink>(store: &StoreOver<T>, sink: &mut K) -> Result<LineOutcome, RunFault>
     requires { CanCount (K.fault_count sink.old) }
     ensures runs { RunsLine (text_step store.now (list_text range_line (range_table store.now.bag.held)))
         store.now store.now (K.taken sink.old) (K.taken sink.new) result }
@@ -89,9 +90,9 @@ pub(crate) fn print_ranges<K: Sink>(store: &Store, sink: &mut K) -> Result<LineO
 }
 
 // Prints the export of what the store holds.
-pub(crate) fn print_export<K: Sink>(
+pub(crate) fn print_export<T: KeptTable, K: Sink>(
     alloc: Global,
-    store: &Store,
+    store: &StoreOver<T>,
     sink: &mut K,
 ) -> Result<LineOutcome, RunFault>
     requires { CanCount (K.fault_count sink.old) }

@@ -8,7 +8,8 @@ ghost use Rattle.s2ix_cli_run.specs.Run.{Ran, Flushes, source_end};
 use crate::coming::{PieceEnd, run_last, run_piece};
 use crate::held_line::HeldLine;
 use crate::run_end::{RunEnd, RunOptions};
-use s2ix_edit::Store;
+use s2ix_edit_store::StoreOver;
+use s2ix_table_kept::KeptTable;
 use s2ix_text_parts::{RunFault, Sink, Source};
 use std::alloc::Global;
 
@@ -26,11 +27,11 @@ const PIECE: usize = 32768;
 /// refused at a line, that line has changed nothing and printed nothing; it is an edit, an undo, a redo, a line with a list of cells, or
 /// one that asks for regions or an export. If the sink failed in a line's answer, the store keeps what that line did, and a front of its
 /// answer went out. After `Write` and `OutOfMemory` no flush follows. O(n) for n bytes of input, and what their lines take.
-pub fn run<S: Source, K: Sink>(
+pub fn run<T: KeptTable, S: Source, K: Sink>(
     alloc: Global,
     source: &mut S,
     sink: &mut K,
-    store: &mut Store,
+    store: &mut StoreOver<T>,
     options: RunOptions,
 ) -> Result<RunEnd, RunFault>
     requires source_counts { CanCount (S.fault_count source.old) }

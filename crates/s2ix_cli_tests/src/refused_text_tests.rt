@@ -48,12 +48,17 @@ fn changes_done(store: Option<Store>) -> Option<usize> {
     Some(store?.done().len())
 }
 
+// Whether there is a store.
+fn is_there(store: Option<Store>) -> bool {
+    store.is_some()
+}
+
 // What a call answers, and where it wrote to.
 fn called(alloc: Global, call: Call) -> (Result<bool, RunFault>, KeepingSink) {
     let mut sink = KeepingSink::new(alloc, 100, 0, false);
     let answer = match call {
         Call::Load(dump) => match load_text(alloc, dump, Limits::default(), &mut sink) {
-            Ok(store) => Ok(store.is_some()),
+            Ok(store) => Ok(is_there(store)),
             Err(fault) => Err(fault),
         },
         Call::Resume(dump, journal) => {

@@ -9,26 +9,16 @@
 //! each part of their faces. A copy of a store shares bag and table, until one of the two takes a step: this step then makes lists of its own
 //! of all parts. A store drops no change by itself: when the number of
 //! changes that can be undone reaches the limit, edits are refused until some are undone, joined or forgotten.
+//!
+//! `s2ix_edit_plan` plans edits. `s2ix_edit_store` has the store, over any table that follows changes, so that it doesn't wait for one. Here
+//! is said which table that is: a [`Store`] is a [`StoreOver`] a [`StoreTable`].
 #![tactic(auto)]
 
-mod given;
-mod held_labels;
-mod history_error;
-mod join_error;
-mod joining;
 pub mod laws;
-mod record_error;
-mod shared_table;
-mod steps;
-mod store;
 mod store_table;
 
-pub use held_labels::HeldLabel;
-pub use history_error::HistoryError;
-pub use join_error::JoinError;
-pub use record_error::RecordError;
 pub use s2ix_edit_plan::{
     Edit, EditError, RedoError, RemoveError, UndoError, plan, plan_removals, plan_rows, region_of,
 };
-pub use store::Store;
-pub use store_table::StoreTable;
+pub use s2ix_edit_store::{HeldLabel, HistoryError, JoinError, RecordError, StoreOver};
+pub use store_table::{Store, StoreTable};

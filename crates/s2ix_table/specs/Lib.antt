@@ -9,10 +9,10 @@ pub use Rattle.s2ix_table_walk.specs.Places
 pub use Rattle.s2ix_table_walk.specs.Shown
 pub use Rattle.s2ix_table_walk.specs.Stretches
 pub use Rattle.s2ix_table_spans.specs.Once
-pub use Rattle.s2ix_table_faced.specs.Faces
+pub use Rattle.s2ix_table_kept.specs.Faces
 pub use Rattle.s2ix_table_faced.specs.Layout
 pub use Rattle.s2ix_table_faced.specs.Offsets
 pub use Rattle.s2ix_table_faced.specs.PartPlaces
-pub use Rattle.s2ix_table_faced.specs.Reading
+pub use Rattle.s2ix_table_kept.specs.Reading
 pub use Rattle.s2ix_table_faced.specs.ReadingLaws
 pub mod Copied

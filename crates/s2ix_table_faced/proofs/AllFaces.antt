@@ -9,7 +9,7 @@ use Rattle.s2ix_bag_pairs.specs.Pair.{rank_of}
 use Rattle.s2ix_bag_pairs.specs.Label.{value_of}
 use Rattle.s2ix_bag_pairs.specs.declared.pair.Held.{Held}
 use Rattle.s2ix_table_walk.proofs.Lists.{later_rank}
-use Rattle.s2ix_table_faced.specs.Faces.{held_on}
+use Rattle.s2ix_table_kept.specs.Faces.{held_on}
 use Rattle.s2ix_table_parts.proofs.HeldWhere.{where_rises}
 use Rattle.s2ix_table_faced.proofs.Unchanged.{on_face, off_face}
 use Rattle.s2ix_table_parts.specs.FaceSpans.{face_begin, AreOnFace}

@@ -11,7 +11,7 @@ use Rattle.s2ix_bag_pairs.specs.Label.{value_of}
 use Rattle.s2ix_bag_pairs.specs.Pair.{rank_of}
 use Rattle.s2ix_bag_pairs.specs.declared.pair.Entry.{Entry}
 use Rattle.s2ix_bag_pairs.proofs.Changes.{change_lower}
-use Rattle.s2ix_table_faced.specs.Faces.{held_on, entries_on}
+use Rattle.s2ix_table_kept.specs.Faces.{held_on, entries_on}
 use Rattle.s2ix_table_faced.proofs.AllFaces.{face_rises, raw_rises}
 use Rattle.s2ix_table_parts.proofs.HeldWhere.{changed_where}
 use Rattle.s2ix_table_parts.proofs.InSpans.{raw_on_face}

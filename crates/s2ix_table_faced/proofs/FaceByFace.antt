@@ -9,7 +9,7 @@ use Rattle.s2ix_bag_lists.specs.Faces.{all_of}
 use Rattle.s2ix_bag_pairs.specs.Collection.{Collection, IsCollection}
 use Rattle.s2ix_bag_pairs.specs.declared.pair.Held.{Held}
 use Rattle.s2ix_table_walk.proofs.OnFaces.{six_faces}
-use Rattle.s2ix_table_faced.specs.Faces.{held_on}
+use Rattle.s2ix_table_kept.specs.Faces.{held_on}
 use Rattle.s2ix_table_parts.specs.FaceSpans.{AreOnFace}
 use Rattle.s2ix_table_faced.specs.Layout.{chunks_on, heavy_in}
 use Rattle.s2ix_table_parts.specs.Layers.{ShareNoCell, joined_layers}

@@ -4,7 +4,7 @@ use Rattle.std.proofs.lemmas.Bool.{cases_Bool, cond-true, cond-false}
 use Rattle.std.proofs.lemmas.List.{get_or_default}
 use Rattle.s2ix_bag_pairs.specs.Collection.{Collection}
 use Rattle.s2ix_bag_pairs.specs.declared.pair.Entry.{Entry}
-use Rattle.s2ix_table_faced.specs.Faces.{changed_on, faces, has_entry_on, held_on}
+use Rattle.s2ix_table_kept.specs.Faces.{changed_on, faces, has_entry_on, held_on}
 use Rattle.s2ix_table_faced.proofs.Summing.{mapped_at}
 
 unfoldable list_or : Collection → Option Collection → Collection

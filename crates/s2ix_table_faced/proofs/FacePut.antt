@@ -9,7 +9,7 @@ use Rattle.s2ix_table_spans.specs.SpanTable.{SpanRanges}
 use Rattle.s2ix_table_heavy.specs.Chunks.{AreChunks}
 use Rattle.s2ix_table_heavy.specs.declared.heavy_place.HeavyPlace.{HeavyPlace}
 use Rattle.s2ix_table_faced.specs.declared.offset.Offset.{Offset}
-use Rattle.s2ix_table_faced.specs.Faces.{has_entry_on, held_on}
+use Rattle.s2ix_table_kept.specs.Faces.{has_entry_on, held_on}
 use Rattle.s2ix_table_faced.specs.FirstParts.{AreFirstParts, of_face, parts_of_face}
 use Rattle.s2ix_table_parts.specs.Neighbours.{held_in}
 use Rattle.s2ix_table_faced.specs.Layout.{AreLayered, chunks_on, heavy_in}

@@ -10,7 +10,7 @@ use Rattle.s2ix_table_spans.specs.SpanTable.{SpanRanges}
 use Rattle.s2ix_table_spans.specs.Starts.{IsAmong, IsLastStart}
 use Rattle.s2ix_table_faced.specs.declared.offset.Offset.{Offset}
 use Rattle.s2ix_table_parts.specs.FaceSpans.{face_begin, no_table, table_of}
-use Rattle.s2ix_table_faced.specs.Faces.{held_on}
+use Rattle.s2ix_table_kept.specs.Faces.{held_on}
 use Rattle.s2ix_table_faced.specs.FirstParts.{AreFirstParts}
 use Rattle.s2ix_table_parts.specs.Neighbours.{held_in, AreNeighbours}
 use Rattle.s2ix_bag_pairs.specs.Collection.{Collection}

@@ -8,7 +8,7 @@ use Rattle.s2ix_table_spans.specs.SpanTable.{SpanRanges}
 use Rattle.s2ix_table_walk.specs.Table.{leaf_end}
 use Rattle.s2ix_table_heavy.specs.Chunks.{AreChunks}
 use Rattle.s2ix_table_heavy.specs.declared.heavy_place.HeavyPlace.{HeavyPlace}
-use Rattle.s2ix_table_faced.specs.Faces.{held_on}
+use Rattle.s2ix_table_kept.specs.Faces.{held_on}
 use Rattle.s2ix_table_parts.specs.FaceSpans.{AreOnFace, face_begin, starts_of}
 use Rattle.s2ix_table_faced.specs.FirstParts.{BeginFaces}
 use Rattle.s2ix_table_parts.specs.Neighbours.{AreNeighbours, held_in}

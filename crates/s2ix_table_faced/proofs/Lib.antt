@@ -1,9 +1,4 @@
-pub mod ReadBlocks
-pub mod Marked
 pub mod PairsOnFaces
-pub mod FaceAround
-pub mod OneByOne
-pub mod ReadCounts
 pub mod Summing
 pub mod Unchanged
 pub mod Joining

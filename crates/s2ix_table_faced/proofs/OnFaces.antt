@@ -7,7 +7,7 @@ use Rattle.s2id_core.proofs.Lists.{in_tail, at_head}
 use Rattle.s2ix_bag_pairs.specs.Collection.{Collection}
 use Rattle.s2ix_table_walk.proofs.Over.{span_of}
 use Rattle.s2ix_table_spans.specs.SpanTable.{SpanRanges}
-use Rattle.s2ix_table_faced.specs.Faces.{held_on}
+use Rattle.s2ix_table_kept.specs.Faces.{held_on}
 use Rattle.s2ix_table_parts.specs.FaceSpans.{face_begin}
 use Rattle.s2ix_table_parts.specs.Neighbours.{held_in, AreNeighbours}
 use Rattle.s2ix_table_parts.specs.Parts.{BeginsFrom, EndsBy}

@@ -14,7 +14,7 @@ use Rattle.s2ix_bag_pairs.specs.Pair.{rank_of}
 use Rattle.s2ix_bag_pairs.specs.declared.pair.Held.{Held}
 use Rattle.s2ix_bag_pairs.specs.declared.pair.Pair.{Pair}
 use Rattle.s2ix_bag_pairs.proofs.CutAtRank.{below_from_places, from_place, ranks_rise}
-use Rattle.s2ix_table_faced.specs.Faces.{held_on}
+use Rattle.s2ix_table_kept.specs.Faces.{held_on}
 use Rattle.s2ix_table_faced.proofs.Unchanged.{on_face, off_face}
 
 by_rank : (raw label face q : ℕ) → label < 2147483648 → q ≡ raw / face_numbers

@@ -10,9 +10,9 @@ use Rattle.s2ix_bag_lists.proofs.Ends.{face_below_six}
 use Rattle.s2ix_bag_pairs.specs.Collection.{Collection}
 use Rattle.s2ix_bag_pairs.specs.declared.pair.Entry.{Entry}
 use Rattle.s2ix_bag_pairs.specs.declared.pair.Held.{Held}
-use Rattle.s2ix_table_faced.specs.Faces.{faces, faces_of, held_on, has_entry_on, changed_on, changed_count}
-use Rattle.s2ix_table_faced.specs.Reading.{HasRead, IsFaceRead, two_searches}
-use Rattle.s2ix_table_faced.proofs.ReadCounts.{both_read, none_read, read_within}
+use Rattle.s2ix_table_kept.specs.Faces.{faces, faces_of, held_on, has_entry_on, changed_on, changed_count}
+use Rattle.s2ix_table_kept.specs.Reading.{HasRead, IsFaceRead, two_searches}
+use Rattle.s2ix_table_kept.proofs.ReadCounts.{both_read, none_read, read_within}
 use Rattle.s2ix_table_faced.proofs.Unchanged.{on_face, off_face}
 
 both : (b : Bool) → (b ≡ true) ⊎ (b ≡ false)

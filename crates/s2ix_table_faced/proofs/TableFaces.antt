@@ -11,7 +11,7 @@ use Rattle.s2ix_table_spans.specs.SpanTable.{SpanRanges}
 use Rattle.s2ix_table_heavy.specs.Chunks.{AreChunks}
 use Rattle.s2ix_table_heavy.specs.declared.heavy_place.HeavyPlace.{HeavyPlace}
 use Rattle.s2ix_table_faced.specs.declared.offset.Offset.{Offset}
-use Rattle.s2ix_table_faced.specs.Faces.{held_on}
+use Rattle.s2ix_table_kept.specs.Faces.{held_on}
 use Rattle.s2ix_table_parts.specs.FaceSpans.{face_begin}
 use Rattle.s2ix_table_faced.specs.FirstParts.{AreFirstParts, of_face}
 use Rattle.s2ix_table_parts.specs.Neighbours.{held_in}

@@ -8,7 +8,7 @@ use Rattle.s2ix_bag_pairs.specs.Collection.{Collection, set_count}
 use Rattle.s2ix_bag_pairs.specs.declared.pair.Entry.{Entry}
 use Rattle.s2ix_bag_pairs.specs.declared.pair.Held.{Held}
 use Rattle.s2ix_bag_pairs.specs.declared.pair.Pair.{Pair}
-use Rattle.s2ix_table_faced.specs.Faces.{held_on, has_entry_on}
+use Rattle.s2ix_table_kept.specs.Faces.{held_on, has_entry_on}
 use Rattle.s2ix_table_parts.proofs.HeldWhere.{set_failed}
 
 -- ---- one held pair before others

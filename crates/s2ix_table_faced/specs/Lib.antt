@@ -9,8 +9,8 @@ pub use Rattle.s2ix_table_walk.specs.Places
 pub use Rattle.s2ix_table_walk.specs.Shown
 pub use Rattle.s2ix_table_walk.specs.Stretches
 pub use Rattle.s2ix_table_spans.specs.Once
-pub mod Reading
-pub mod Faces
+pub use Rattle.s2ix_table_kept.specs.Faces
+pub use Rattle.s2ix_table_kept.specs.Reading
 pub mod ReadingLaws
 pub mod Joined
 pub mod Offsets

@@ -3,7 +3,7 @@ use Rattle.std.specs.Prelude.{◌≡◌, ℕ, false, List}
 use Rattle.s2ix_bag_pairs.specs.Change.{changed}
 use Rattle.s2ix_bag_pairs.specs.Collection.{Collection}
 use Rattle.s2ix_bag_pairs.specs.declared.pair.Entry.{Entry}
-use Rattle.s2ix_table_faced.specs.Faces.{held_on, has_entry_on}
+use Rattle.s2ix_table_kept.specs.Faces.{held_on, has_entry_on}
 
 abbrev pub UnchangedFacesStay : Type 0
 UnchangedFacesStay =

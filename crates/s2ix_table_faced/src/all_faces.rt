@@ -4,9 +4,9 @@ ghost use Rattle.s2ix_table_faced.specs.FirstParts.{BeginFaces};
 ghost use Rattle.s2ix_table_parts.specs.FaceSpans.{heavy_places_of, spans_of};
 ghost use Rattle.s2ix_table_faced.specs.Layout.{IsLayout, pairs_of};
 
-use crate::pair_reader::PairReader;
 use crate::read_faces::read_list;
 use s2id_core::{FACES, OutOfMemory};
+use s2ix_table_kept::PairReader;
 use s2ix_table_parts::{HeavyPairs, NewFace, Part, all_anew};
 use std::alloc::Global;
 

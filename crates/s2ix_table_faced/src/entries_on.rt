@@ -2,7 +2,7 @@ ghost use Rattle.std.specs.Prelude.{◌≡◌, ◌<◌, ◌≤◌, length, take,
 ghost use Rattle.s2id_core.specs.CellId.{face_of};
 ghost use Rattle.s2ix_bag_pairs.specs.Change.{IsChangeList};
 ghost use Rattle.s2ix_bag_pairs.specs.declared.pair.Entry.{Entry as EntryOf};
-ghost use Rattle.s2ix_table_faced.specs.Faces.{entries_on};
+ghost use Rattle.s2ix_table_kept.specs.Faces.{entries_on};
 
 use s2ix_bag_pairs::Entry;
 

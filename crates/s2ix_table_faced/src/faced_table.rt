@@ -11,7 +11,7 @@ ghost use Rattle.s2ix_table_walk.specs.Places.{IsPlace, LeadsTo};
 ghost use Rattle.s2ix_table_faced.specs.declared.part_place.FacedPlace.TheVariants.{Light, Heavy};
 ghost use Rattle.s2ix_table_walk.specs.Shown.{AreBorders};
 ghost use Rattle.s2ix_table_walk.specs.Table.{range_at, IsFound, IsRangeTable, leaf_end};
-ghost use Rattle.s2ix_table_faced.specs.Faces.{changed_count, held_on, changed_on, faces, faces_of, has_entry_on};
+ghost use Rattle.s2ix_table_kept.specs.Faces.{changed_count, held_on, changed_on, faces, faces_of, has_entry_on};
 ghost use Rattle.s2ix_table_faced.specs.FirstParts.{BeginFaces, parts_of_face, of_face};
 ghost use Rattle.s2ix_table_parts.specs.FaceSpans.{heavy_places_of, spans_of, starts_of, table_of};
 ghost use Rattle.s2ix_table_parts.specs.Made.{IfOkSome};
@@ -22,19 +22,17 @@ ghost use Rattle.s2ix_table_faced.specs.Offsets.{HasOwn, HasRange, place_on, pla
 ghost use Rattle.s2ix_table_faced.specs.OneProof.{joined-prop, layered-prop, faced_once-prop};
 ghost use Rattle.s2ix_table_faced.specs.PartPlaces.{faced_chain};
 ghost use Rattle.s2ix_table_parts.specs.Parts.{with_parts};
-ghost use Rattle.s2ix_table_faced.specs.Reading.{two_searches};
+ghost use Rattle.s2ix_table_kept.specs.Reading.{two_searches};
 ghost use Rattle.s2ix_table_faced.specs.Whole.{AreJoined};
 ghost use Rattle.s2ix_bag_lists.specs.Faces.{all_of};
 
 use crate::all_faces::{AllFaces, read_all_faces};
-use crate::bag_reader::BagReader;
 use crate::changes::only_face;
 use crate::copies::{copy_of, shared_parts};
 use crate::entries_on::entries_on;
 use crate::heavy_faces::{all_are_chunks, set_face};
 use crate::layout::{Layout, uncounted};
 use crate::offset::Offset;
-use crate::pair_reader::PairReader;
 use crate::part_begins::{PartBegins, begin_at, put_begins, starts_with};
 use crate::part_place::{FaceHeavyPlace, FacedPlace, PartPlace};
 use crate::read_faces::read_changed_lists;
@@ -44,6 +42,7 @@ use s2id_core::{CellId, FACES, LEAF_END, OutOfMemory};
 use s2ix_bag_changes::{Bag, Change};
 use s2ix_bag_lists::HeldParts;
 use s2ix_bag_pairs::Held;
+use s2ix_table_kept::{BagReader, KeptTable, PairReader};
 use s2ix_table_parts::{Face, HeavyPairs, NewFace, Part, begins_of, put_between};
 use s2ix_table_queries::{BATCH, Bookmark, LeafContents, RangeTable, Stretch};
 use s2ix_table_spans::SpanTable;
@@ -226,6 +225,26 @@ impl RangeTable for FacedTable {
 
 impl SharesChains for FacedTable {
     ghost keeps_once = { λ t. t.once };
+}
+
+impl KeptTable for FacedTable {
+    fn rebuild<B: PairReader>(
+        &mut self,
+        alloc: Global,
+        bag: &mut B,
+        change: &Change,
+    ) -> Result<(), OutOfMemory> {
+        FacedTable::rebuild(self, alloc, bag, change)
+    }
+
+    fn rebuilt<B: PairReader>(
+        &self,
+        alloc: Global,
+        bag: &mut B,
+        change: &Change,
+    ) -> Result<FacedTable, OutOfMemory> {
+        FacedTable::rebuilt(self, alloc, bag, change)
+    }
 }
 
 impl FacedTable {

@@ -3,7 +3,7 @@ ghost use Rattle.std.specs.Prelude.{◌≡◌, ◌≢◌, ◌<◌, ◌≤◌, �
 ghost use Rattle.s2ix_bag_pairs.specs.Change.{changed};
 ghost use Rattle.s2ix_bag_pairs.specs.Collection.{IsCollection};
 ghost use Rattle.s2ix_table_heavy.specs.ChangedChunk.{FitsChunk};
-ghost use Rattle.s2ix_table_faced.specs.Faces.{has_entry_on};
+ghost use Rattle.s2ix_table_kept.specs.Faces.{has_entry_on};
 ghost use Rattle.s2ix_table_parts.specs.FaceSpans.{heavy_places_of, spans_of};
 ghost use Rattle.s2ix_table_faced.specs.Layout.{IsLayout, chunks_on, pairs_of};
 ghost use Rattle.s2ix_table_parts.specs.Made.{IfOkSome};

@@ -3,15 +3,14 @@ ghost use Rattle.s2ix_bag_lists.specs.Faces.{face_start};
 ghost use Rattle.s2ix_bag_pairs.specs.Collection.{IsCollectionFrom, AreBelow};
 ghost use Rattle.s2ix_bag_pairs.specs.Pair.{rank_of};
 ghost use Rattle.s2id_core.specs.BinaryDigits.{binary_digits};
-ghost use Rattle.s2ix_table_faced.specs.Faces.{faces, faces_of, held_on, changed_on, changed_count};
-ghost use Rattle.s2ix_table_faced.specs.Reading.{HasRead, IsFaceRead, AreChangedRead, two_searches};
+ghost use Rattle.s2ix_table_kept.specs.Faces.{faces, faces_of, held_on, changed_on, changed_count};
+ghost use Rattle.s2ix_table_kept.specs.Reading.{HasRead, IsFaceRead, AreChangedRead, two_searches};
 
-use crate::changes::changed_faces;
-use crate::pair_reader::PairReader;
 use s2id_core::{FACES, OutOfMemory};
 use s2ix_bag_changes::Change;
 use s2ix_bag_lists::HeldParts;
 use s2ix_bag_pairs::Pair;
+use s2ix_table_kept::{PairReader, changed_faces};
 use std::alloc::Global;
 
 // Whether a pair lies on a face before this one.

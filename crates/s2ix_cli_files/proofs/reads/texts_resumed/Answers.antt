@@ -10,25 +10,25 @@ use Rattle.s2ix_cli_files.proofs.Led.{recordable_of}
 use Rattle.s2ix_cli_files.proofs.reads.texts_resumed.Goals as goal
 
 pub store_led-requires : goal.store_led-requires
-store_led-requires c = record {
+store_led-requires g c = record {
   recordable =
       recordable_of c.args.limits c.in_ok-bag.bag c.in_ok-changes.changes.items c.in_ok-bag.ensures.bag.1 c.in_ok-changes.ensures.changes.0;
 }
 
 pub returns-in_err-changes-clause-refused : goal.returns-in_err-changes-clause-refused
-returns-in_err-changes-clause-refused c =
+returns-in_err-changes-clause-refused g c =
     let p = err_from_is_err_and c.from_residual-in_err-changes.result c.from_residual-in_err-changes.ensures.1 in
     rw (p.1, p.2) (refused_journal RewindLeads c.args.limits c.args.dump.now c.args.journal.now c.in_ok-bag.bag c.in_err-changes.field-0.0
     c.in_ok-bag.ensures.bag c.in_err-changes.ensures.refused)
 
 pub returns-clause-store : goal.returns-clause-store
-returns-clause-store c =
+returns-clause-store g c =
     IfOk-weaker c.store_led.result _ _
     (λ store is. (c.in_ok-bag.bag, c.in_ok-changes.changes.items, c.in_ok-bag.ensures.bag, c.in_ok-changes.ensures.changes, is))
     c.store_led.ensures.store
 
 pub returns-clause-first : goal.returns-clause-first
-returns-clause-first c =
+returns-clause-first g c =
     let bag = c.in_ok-bag.bag in
     let changes = c.in_ok-changes.changes.items in
     if_ok c.store_led.result _ _
@@ -39,7 +39,7 @@ returns-clause-first c =
     )) c.store_led.ensures.accepted
 
 pub returns-clause-refused : goal.returns-clause-refused
-returns-clause-refused c =
+returns-clause-refused g c =
     let bag = c.in_ok-bag.bag in
     IfErr-weaker c.store_led.result _ _
     (λ error refused.
@@ -49,7 +49,7 @@ returns-clause-refused c =
     c.in_ok-changes.ensures.changes refused)) c.store_led.ensures.refused
 
 pub returns-clause-memory : goal.returns-clause-memory
-returns-clause-memory c =
+returns-clause-memory g c =
     IfErr-weaker c.store_led.result _ _
     (λ error refused. λ wanted. subst (λ (found : Option (ℕ × DumpFault)). IsFromLine 2 found) (sym c.in_ok-bag.ensures.accepted) tt)
     c.store_led.ensures.refused

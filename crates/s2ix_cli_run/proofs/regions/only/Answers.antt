@@ -7,13 +7,13 @@ use Rattle.s2ix_edit_plan.specs.Region.{region_of}
 use Rattle.s2ix_cli_run.proofs.regions.only.Goals as goal
 
 pub returns-in_err-first : goal.returns-in_err-first
-returns-in_err-first c = search rules
+returns-in_err-first g c = search rules
 
 pub returns-in_err-second : goal.returns-in_err-second
-returns-in_err-second c = search rules
+returns-in_err-second g c = search rules
 
 pub returns : goal.returns
-returns c =
+returns g c =
     let first = region_of c.args.first c.args.store.now.bag.held in
     IfOk-weaker c.difference.result _ _
     (λ union is.

@@ -2,7 +2,7 @@
 use Rattle.std.proofs.Common.{ℕ, ◌+◌, ◌<◌, ◌++◌, [], length, refl, subst, sym, ap, ◌∙◌, arith}
 use Rattle.std.proofs.lemmas.List.{length-set}
 use Rattle.s2ix_bag_pairs.specs.Collection.{IsCollection}
-use Rattle.s2ix_table_faced.specs.Faces.{held_on}
+use Rattle.s2ix_table_kept.specs.Faces.{held_on}
 use Rattle.s2ix_table_parts.specs.FaceSpans.{AreOnFace, heavy_places_of, spans_of}
 use Rattle.s2ix_table_parts.specs.Parts.{with_parts}
 use Rattle.s2ix_table_faced.proofs.AllFaces.{held_few, held_rises, lie_on}

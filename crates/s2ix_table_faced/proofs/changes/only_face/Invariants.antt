@@ -1,7 +1,7 @@
 -- Of the faces before this one at most one has entries.
 use Rattle.std.proofs.Common.{◌≡◌, ◌≢◌, ◌<◌, ℕ, true, false, None}
 use Rattle.std.specs.Option.{IfSome}
-use Rattle.s2ix_table_faced.specs.Faces.{has_entry_on}
+use Rattle.s2ix_table_kept.specs.Faces.{has_entry_on}
 use Rattle.s2ix_table_faced.proofs.changes.only_face.Given as goal
 
 abbrev pub invariant-loop-face : goal.invariant-loop-face

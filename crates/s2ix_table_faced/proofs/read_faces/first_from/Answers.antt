@@ -6,8 +6,8 @@ use Rattle.s2ix_bag_pairs.specs.Collection.{Collection, AreBelow, IsCollectionFr
 use Rattle.s2ix_bag_pairs.specs.Pair.{rank_of}
 use Rattle.s2id_core.specs.BinaryDigits.{binary_digits}
 use Rattle.s2id_core.proofs.BinaryDigits.{digits_rise, digits_step}
-use Rattle.s2ix_table_faced.specs.Reading.{with_read}
-use Rattle.s2ix_table_faced.proofs.FaceAround.{below_up_to, from_later}
+use Rattle.s2ix_table_kept.specs.Reading.{with_read}
+use Rattle.s2ix_table_kept.proofs.FaceAround.{below_up_to, from_later}
 use Rattle.s2ix_table_faced.proofs.PairsOnFaces.{below_read, from_read}
 use Rattle.s2ix_table_faced.proofs.read_faces.first_from.Goals as goal
 

@@ -3,7 +3,7 @@ use Rattle.std.proofs.Common.{◌≡◌, ◌+◌, ◌-◌, ◌≤◌, ℕ, lengt
 use Rattle.s2ix_bag_lists.specs.Faces.{face_start}
 use Rattle.s2ix_bag_pairs.specs.Collection.{IsCollectionFrom, AreBelow}
 use Rattle.s2id_core.specs.BinaryDigits.{binary_digits}
-use Rattle.s2ix_table_faced.specs.Reading.{with_reads}
+use Rattle.s2ix_table_kept.specs.Reading.{with_reads}
 use Rattle.s2ix_table_faced.proofs.read_faces.first_from.Given as goal
 
 abbrev pub invariant-loop-from : goal.invariant-loop-from

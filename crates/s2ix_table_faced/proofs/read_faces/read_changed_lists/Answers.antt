@@ -2,9 +2,9 @@
 use Rattle.std.proofs.Common.{ℕ, Option, None, List, map, sym, ◌<◌, true, false, refl, ap, ◌∙◌, arith}
 use Rattle.std.proofs.lemmas.List.{map-id}
 use Rattle.s2ix_bag_pairs.specs.Collection.{Collection}
-use Rattle.s2ix_table_faced.specs.Faces.{held_on, changed_on}
-use Rattle.s2ix_table_faced.specs.Reading.{two_searches}
-use Rattle.s2ix_table_faced.proofs.ReadCounts.{read_within}
+use Rattle.s2ix_table_kept.specs.Faces.{held_on, changed_on}
+use Rattle.s2ix_table_kept.specs.Reading.{two_searches}
+use Rattle.s2ix_table_kept.proofs.ReadCounts.{read_within}
 use Rattle.s2ix_table_faced.proofs.Summing.{face_was_read, face_was_left, face_was_refused, tested, put_next, same_next, all_renewed, some_on, none_on_face, nothing_read, all_read}
 use Rattle.s2ix_table_faced.proofs.read_faces.read_changed_lists.Goals as goal
 use Rattle.s2ix_table_faced.proofs.read_faces.read_changed_lists.Goals.{then-changed-from+in_ok-read_list+in-None-1, then-changed-from+in_ok-read_list+in-Some+in-None-1, then-changed-from+in_ok-read_list+in-Some+in-Some-read-from-2, else-changed-from}

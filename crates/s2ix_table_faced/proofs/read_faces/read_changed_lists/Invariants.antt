@@ -1,8 +1,8 @@
 -- The faces before this one were read, when the change has entries on them.
 use Rattle.std.proofs.Common.{◌≡◌, Option, None, map}
 use Rattle.s2ix_bag_pairs.specs.Collection.{Collection}
-use Rattle.s2ix_table_faced.specs.Faces.{changed_on}
-use Rattle.s2ix_table_faced.specs.Reading.{two_searches}
+use Rattle.s2ix_table_kept.specs.Faces.{changed_on}
+use Rattle.s2ix_table_kept.specs.Reading.{two_searches}
 use Rattle.s2ix_table_faced.proofs.Summing.{AreReadBelow, renewed}
 use Rattle.s2ix_table_faced.proofs.read_faces.read_changed_lists.Given as goal
 

@@ -3,9 +3,9 @@ use Rattle.std.proofs.Common.{◌≡◌, ℕ, ◌+◌, ◌-◌, length, take, dr
 use Rattle.std.proofs.lemmas.Result.{IfOk-weaker, on_ok_weaker}
 use Rattle.s2ix_bag_pairs.specs.Collection.{Collection}
 use Rattle.s2id_core.specs.BinaryDigits.{binary_digits}
-use Rattle.s2ix_table_faced.specs.Faces.{held_on}
+use Rattle.s2ix_table_kept.specs.Faces.{held_on}
 use Rattle.s2ix_table_faced.proofs.PairsOnFaces.{IsFaceCut, face_cut}
-use Rattle.s2ix_table_faced.proofs.ReadCounts.{face_reads}
+use Rattle.s2ix_table_kept.proofs.ReadCounts.{face_reads}
 use Rattle.s2ix_table_faced.proofs.read_faces.read_list.Given.{Over}
 use Rattle.s2ix_table_faced.proofs.read_faces.read_list.Goals as goal
 use Rattle.s2ix_table_faced.proofs.read_faces.read_list.Goals.{After-first_from-after}

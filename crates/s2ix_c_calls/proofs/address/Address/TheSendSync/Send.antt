@@ -7,7 +7,7 @@ use denote.Param.Send.{IsSend, owning_send, sendable}
 use Rattle.std.proofs.Crossing.{Box-send}
 use Rattle.std.proofs.alloc.Global.TheSendSync as heap
 use Rattle.std.specs.Global.{Global}
-use Rattle.s2ix_edit.proofs.store.Store.TheSendSync as store
+use Rattle.s2ix_edit_store.proofs.store.Store.TheSendSync as store
 use Rattle.s2ix_edit_plan.specs.State.{State}
 use Rattle.s2ix_c_calls.proofs.AddressSteps.{Stored}
 use Rattle.s2ix_c_calls.specs.Address.{owned_at}

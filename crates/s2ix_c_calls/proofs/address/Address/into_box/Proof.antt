@@ -12,7 +12,7 @@ use denote.Triple.Clauses.{Lasts, lasts}
 use Rattle.std.specs.contracts.impls.GlobalAllocator.TheImpl as heap
 use Rattle.std.proofs.impls.GlobalAllocator.TheImpl.Met.{passed}
 use Rattle.std.proofs.alloc.Global.TheLaws as heap_laws
-use Rattle.s2ix_edit.proofs.store.Store.TheLaws as store_laws
+use Rattle.s2ix_edit_store.proofs.store.Store.TheLaws as store_laws
 use Rattle.s2ix_edit_plan.specs.State.{State}
 use Rattle.std.specs.contracts.boxed.Box.from_raw as g
 use Rattle.std.proofs.boxed.Box.from_raw.Met.{met}

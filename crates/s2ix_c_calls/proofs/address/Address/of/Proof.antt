@@ -11,7 +11,7 @@ use denote.Param.NoDrop.{glues}
 use Rattle.std.specs.contracts.impls.GlobalAllocator.TheImpl as heap
 use Rattle.std.proofs.impls.GlobalAllocator.TheImpl.Met.{passed}
 use Rattle.std.proofs.alloc.Global.TheLaws as heap_laws
-use Rattle.s2ix_edit.proofs.store.Store.TheLaws as store_laws
+use Rattle.s2ix_edit_store.proofs.store.Store.TheLaws as store_laws
 use Rattle.std.specs.contracts.boxed.Box.into_raw as g
 use Rattle.std.proofs.boxed.Box.into_raw.Met.{met}
 use Rattle.s2ix_c_calls.proofs.Dropped.{kept, freed, drops_store}

@@ -1,7 +1,7 @@
 -- The face has the changed chunk in its place, and the other faces stay.
 use Rattle.std.proofs.Common.{ℕ, [], length, set, ap, ◌∙◌, arith, rules}
 use Rattle.s2ix_bag_pairs.specs.Change.{changed}
-use Rattle.s2ix_table_faced.specs.Faces.{entries_on}
+use Rattle.s2ix_table_kept.specs.Faces.{entries_on}
 use Rattle.s2ix_table_parts.specs.FaceSpans.{heavy_places_of, spans_of}
 use Rattle.s2ix_table_parts.specs.Layered.{IsFaceWith, face_pairs}
 use Rattle.s2ix_table_faced.specs.Layout.{chunks_on, pairs_of}

@@ -2,7 +2,7 @@ use Rattle.std.proofs.Common.{ℕ, IfOk, length, subst, sym, ap, ◌∙◌, arit
 use Rattle.s2ix_bag_pairs.specs.Change.{changed}
 use Rattle.s2ix_bag_pairs.specs.Collection.{Collection, IsCollection}
 use Rattle.s2ix_bag_pairs.proofs.Changes.{changed_keeps}
-use Rattle.s2ix_table_faced.specs.Faces.{entries_on, held_on}
+use Rattle.s2ix_table_kept.specs.Faces.{entries_on, held_on}
 use Rattle.s2ix_table_parts.specs.FaceSpans.{AreOnFace, heavy_places_of, spans_of}
 use Rattle.s2ix_table_faced.specs.FirstParts.{parts_of_face}
 use Rattle.s2ix_table_parts.specs.Layered.{IsFaceWith, face_pairs}

@@ -1,10 +1,10 @@
 use Rattle.std.proofs.Common.{◌+◌, ◌*◌, ◌≤◌, length, map, sym, ap, ◌∙◌, subst, arith}
 use Rattle.s2ix_bag_pairs.specs.Collection.{Collection, IsCollection}
 use Rattle.s2ix_table_walk.specs.Table.{IsRangeTable}
-use Rattle.s2ix_table_faced.specs.Faces.{changed_count, changed_on, faces, faces_of}
+use Rattle.s2ix_table_kept.specs.Faces.{changed_count, changed_on, faces, faces_of}
 use Rattle.s2ix_table_faced.specs.Layout.{ranges_of}
-use Rattle.s2ix_table_faced.specs.Reading.{HasRead, AreChangedRead, two_searches}
-use Rattle.s2ix_table_faced.proofs.ReadCounts.{few_reads}
+use Rattle.s2ix_table_kept.specs.Reading.{HasRead, AreChangedRead, two_searches}
+use Rattle.s2ix_table_kept.proofs.ReadCounts.{few_reads}
 use Rattle.s2ix_table_faced.proofs.faced_table.FacedTable.rebuild.Given.{Over}
 use Rattle.s2ix_table_faced.proofs.faced_table.FacedTable.rebuild.Goals.{After-read_changed_lists}
 use Rattle.s2ix_table_faced.proofs.faced_table.FacedTable.rebuild.Goals as goal

@@ -1,8 +1,0 @@
--- The pairs that came are counted.
-use Rattle.std.proofs.Common.{◌≡◌, ◌++◌, length, map}
-use Rattle.s2ix_edit.specs.HeldLabels.{total_of}
-use Rattle.s2ix_edit.proofs.held_labels.count_pairs.Given as goal
-
-abbrev pub invariant-loop-held : goal.invariant-loop-held
-invariant-loop-held l =
-    (l.yielded ++ l.held-iterator ≡ l.bag.held) × (l.totals ≡ map (total_of l.yielded) l.labels) × (length l.totals ≡ length l.labels)

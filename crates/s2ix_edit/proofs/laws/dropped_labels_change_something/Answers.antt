@@ -1,5 +1,0 @@
-use Rattle.s2ix_edit.proofs.LimitRefusals.{drop_changes_something}
-use Rattle.s2ix_edit.proofs.laws.dropped_labels_change_something.Goals as goal
-
-pub returns : goal.returns
-returns c = drop_changes_something
