@@ -3,6 +3,8 @@ pub use Rattle.std.proofs.Common.{◌≡◌, ℕ, List, [], ◌∷◌, ◌++◌,
 pub use Rattle.std.proofs.raw_atomic.Walks.{proved_at}
 pub use Rattle.std.specs.Prelude.{Option, Some, None, IsSome}
 pub use base.Fml.{Fml, ftrue}
+use base.Fml.{Lft}
+use contract.BorrowLft.{◌⊑◌}
 pub use mir.Val.{Val, vcons, vnil, vstruct, of_list, has_ty, WT}
 pub use prog.Wp.{WpFn}
 pub use contract.Running.{tables}
@@ -36,17 +38,26 @@ use Rattle.std.specs.Global.{Global}
 use Rattle.std.specs.contracts.impls.GlobalAllocator.TheImpl.{ghosts}
 use Rattle.std.specs.contracts.boxed.Box as box
 use Rattle.std.proofs.boxed.Box.TheLaws as box_laws
-use Rattle.s2ix_edit_store.specs.contracts.store.Store as store
-use Rattle.s2ix_edit_store.proofs.store.Store.TheLaws as store_laws
+use Rattle.s2ix_table_faced.specs.contracts.faced_table.FacedTable as table
+use Rattle.s2ix_table_faced.specs.contracts.faced_table.FacedTableDebug.TheImpl as shown
+use Rattle.s2ix_table_faced.specs.contracts.faced_table.FacedTableRangeTable.TheImpl as ranges
+use Rattle.s2ix_table_faced.proofs.faced_table.FacedTable.TheLaws as table_laws
+use Rattle.s2ix_edit_store.proofs.store.StoreOver.TheLaws as store_laws
 use denote.RattleType.{RattleType}
 use Rattle.s2ix_edit_plan.specs.State.{State}
+pub use Rattle.s2ix_c_calls.specs.Address.{Stored}
 use Rattle.s2ix_c_calls.specs.Address.{owned_at}
 use Rattle.s2ix_c_calls.specs.declared.address.Address.{Address}
 use Rattle.s2ix_c_calls.specs.contracts.address.Address as address
 pub use Rattle.std.specs.contracts.alloc.Global.{the_row as Heap}
 
-abbrev pub Stored : RattleType
-Stored = store.the_row
+-- what holds of a store's type
+abbrev pub stored_laws : Laws Stored
+stored_laws = store_laws.the_row_laws table.the_row ranges.ghosts shown.ghosts table_laws.the_row_laws
+
+-- a store borrows nothing, since its table doesn't
+pub stored_within : (κ : Lft) → κ ⊑ Stored.lives
+stored_within κ = store_laws.the_within table.the_row ranges.ghosts shown.ghosts κ (table_laws.the_within κ)
 
 -- a type as a call is given it: its layout stands without names
 abbrev pub Given : RattleType → RattleType
@@ -92,7 +103,7 @@ module _ {M : Type 1} {𝓤 : Ura M} {𝓛 : Logic 𝓤} {K : Type 0} {Γ : List
   -- so of a box
   pub box_is : K → (b : Boxed.Denot) (vs : List Val) → ((v : Val) → vs ≡ v ∷ [] → IsOf (layout Boxed) v → Seq K 𝓛 (‵ (Boxed.own_val b (v ∷ [])) ∷ Γ) G)
       → Seq K 𝓛 (‵ (Boxed.own_val b vs) ∷ Γ) G
-  box_is = handle_tells (record { row = Boxed; laws = box_laws.the_row_laws Stored Heap ghosts store_laws.the_row_laws laws.the_row_laws; g = record { dealloc_token = λ b ty at. ftrue }; d = impl [] tnil dnil; drops = impl [] tnil dnil })
+  box_is = handle_tells (record { row = Boxed; laws = box_laws.the_row_laws Stored Heap ghosts stored_laws laws.the_row_laws; g = record { dealloc_token = λ b ty at. ftrue }; d = impl [] tnil dnil; drops = impl [] tnil dnil })
 
   -- an address is made of what lies there and of the allocator
   pub makes_address : K → (state : Option State) (alloc : Global) (at : Ptr) (v : Val)

@@ -1,5 +1,5 @@
 -- The pointer becomes a box again, which owns what the address owned.
-use Rattle.s2ix_c_calls.proofs.AddressSteps.{[], ◌∷◌, ◌++◌, ◌∙◌, ◌≡◌, List, refl, sym, ap, subst, proved_at, Option, Some, IsSome, ftrue, Val, WpFn, tables, ‵, raw, ◌⊛◌, some, later, prop, at_ret, ◌$◌, ◌∵◌, !, qed, done, move, drop, use0, use1, pick, await, split, join, fsplit, fjoin, feq_i, regoal, rewrite, suffices, sub, whole, enter, of_opd, and_then, no_more, stop, fld, first, blocks, exec, returns, alloc_all, pass_all, free_all, look_at, get, get_in, sets, lands_last, env, lft_new, yes, owns, ptr_val, plain, nothing, only, heard, calls_at_last, triple_of, framed, Stays, walk_of, says, stay_dropped, Goes-dropped, ends_at, Given, given_laws, Heap, Stored, Boxed, IsOf, fields_fit, start_fits, start_typed, box_is, opens_address, state_of}
+use Rattle.s2ix_c_calls.proofs.AddressSteps.{[], ◌∷◌, ◌++◌, ◌∙◌, ◌≡◌, List, refl, sym, ap, subst, proved_at, Option, Some, IsSome, ftrue, Val, WpFn, tables, ‵, raw, ◌⊛◌, some, later, prop, at_ret, ◌$◌, ◌∵◌, !, qed, done, move, drop, use0, use1, pick, await, split, join, fsplit, fjoin, feq_i, regoal, rewrite, suffices, sub, whole, enter, of_opd, and_then, no_more, stop, fld, first, blocks, exec, returns, alloc_all, pass_all, free_all, look_at, get, get_in, sets, lands_last, env, lft_new, yes, owns, ptr_val, plain, nothing, only, heard, calls_at_last, triple_of, framed, Stays, walk_of, says, stay_dropped, Goes-dropped, ends_at, Given, given_laws, Heap, Stored, stored_laws, stored_within, Boxed, IsOf, fields_fit, start_fits, start_typed, box_is, opens_address, state_of}
 use base.Fraction.{full_share}
 use base.Logic.{emp, id⊢}
 use base.Fml.{flft}
@@ -12,7 +12,6 @@ use denote.Triple.Clauses.{Lasts, lasts}
 use Rattle.std.specs.contracts.impls.GlobalAllocator.TheImpl as heap
 use Rattle.std.proofs.impls.GlobalAllocator.TheImpl.Met.{passed}
 use Rattle.std.proofs.alloc.Global.TheLaws as heap_laws
-use Rattle.s2ix_edit_store.proofs.store.Store.TheLaws as store_laws
 use Rattle.s2ix_edit_plan.specs.State.{State}
 use Rattle.std.specs.contracts.boxed.Box.from_raw as g
 use Rattle.std.proofs.boxed.Box.from_raw.Met.{met}
@@ -48,9 +47,9 @@ into_box_spec {M = M} 𝓤 𝓛 𝓜 𝓡 wired =
     nothing ! $ move ! (1 ∷ 0 ∷ []) $ join ! $ move ! (1 ∷ 0 ∷ []) $ join ! $ move ! (2 ∷ []) $
     nothing ! $ feq_i ! (List Val) (ptr_val a.start ∷ []) (ptr_val a.start ∷ []) refl $ fjoin ! $ move ! (1 ∷ 0 ∷ []) $ fjoin ! $ move ! (1 ∷ 0 ∷ []) $ join ! $ move ! (1 ∷ []) $
     use0 𝓛 (raw (fact 𝓤 ((β ∷ []) ⊑ Heap.lives))) (fact_i 𝓤 _ (emp 𝓤) (heap_laws.the_within (β ∷ []))) $ join ! $
-    use0 𝓛 (raw (fact 𝓤 ((α ∷ []) ⊑ Stored.lives))) (fact_i 𝓤 _ (emp 𝓤) (store_laws.the_within (α ∷ []))) $ join ! $
+    use0 𝓛 (raw (fact 𝓤 ((α ∷ []) ⊑ Stored.lives))) (fact_i 𝓤 _ (emp 𝓤) (stored_within (α ∷ []))) $ join ! $
     move ! (1 ∷ 0 ∷ []) $ join ! $ use1 𝓛 (raw (G.pre z)) (id⊢ 𝓤 _) $
-    calls_at_last ! (framed 𝓤 𝓛.H 𝓜 𝓣) G (met 𝓤 𝓛 𝓜 𝓡 (code.calls-std::boxed::Box::from_raw 𝓡.env wired) (Given Stored) (Given Heap) (given_laws Stored store_laws.the_row_laws refl) (given_laws Heap heap_laws.the_row_laws refl) heap.ghosts heap.dict kept
+    calls_at_last ! (framed 𝓤 𝓛.H 𝓜 𝓣) G (met 𝓤 𝓛 𝓜 𝓡 (code.calls-std::boxed::Box::from_raw 𝓡.env wired) (Given Stored) (Given Heap) (given_laws Stored stored_laws refl) (given_laws Heap heap_laws.the_row_laws refl) heap.ghosts heap.dict kept
     (passed 𝓡.env (code.calls-std::impls::GlobalAllocator::allocate 𝓡.env wired) (code.calls-std::impls::GlobalAllocator::deallocate 𝓡.env wired) (code.calls-std::impls::GlobalAllocator::grow 𝓡.env wired) (code.calls-std::impls::GlobalAllocator::shrink 𝓡.env wired) M 𝓤 𝓛 𝓜 𝓡)
     (glues "s2ix_c_calls::Destruct++none::drop" 𝓡.env (code.calls-s2ix_c_calls::Destruct++none::drop 𝓡.env wired) (Given Heap) (given_laws Heap heap_laws.the_row_laws refl) M 𝓤 𝓛 𝓜 𝓡)) z (and_then ! (get ! refl) (and_then ! (get ! refl) (no_more !))) (λ u.
     use1 𝓛 (later (some (λ (r : Boxed.Denot). ((‵ (flft (α ∷ []) full_share) ⊛ ‵ (flft (β ∷ []) full_share) ⊛ ‵ ftrue) ⊛ ‵ (Boxed.own_val r (u ∷ []))) ⊛

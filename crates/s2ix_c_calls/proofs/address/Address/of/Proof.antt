@@ -1,5 +1,5 @@
 -- The box becomes a pointer, and what it owned is what the address owns.
-use Rattle.s2ix_c_calls.proofs.AddressSteps.{[], ◌∷◌, ◌++◌, refl, ap, proved_at, Some, ftrue, WpFn, tables, ‵, raw, ◌⊛◌, some, later, prop, ◌$◌, ◌∵◌, !, qed, done, move, drop, use0, use1, pick, await, split, join, fsplit, fjoin, feq_l, regoal, suffices, agg, enter, of_opd, and_then, no_more, returns, alloc_all, pass_all, free_all, look_at, get, sets, lands_as, lft_new, yes, owns, Ptr, ptr_val, plain, nothing, only, calls_at, triple_of, framed, Stays, walk_of, says, stay_dropped, Goes-dropped, ends_at, RawPtr, Given, given_laws, Heap, Stored, Boxed, fields, fields_fit, start_fits, start_typed, heap_is, box_is, makes_address}
+use Rattle.s2ix_c_calls.proofs.AddressSteps.{[], ◌∷◌, ◌++◌, refl, ap, proved_at, Some, ftrue, WpFn, tables, ‵, raw, ◌⊛◌, some, later, prop, ◌$◌, ◌∵◌, !, qed, done, move, drop, use0, use1, pick, await, split, join, fsplit, fjoin, feq_l, regoal, suffices, agg, enter, of_opd, and_then, no_more, returns, alloc_all, pass_all, free_all, look_at, get, sets, lands_as, lft_new, yes, owns, Ptr, ptr_val, plain, nothing, only, calls_at, triple_of, framed, Stays, walk_of, says, stay_dropped, Goes-dropped, ends_at, RawPtr, Given, given_laws, Heap, Stored, stored_laws, stored_within, Boxed, fields, fields_fit, start_fits, start_typed, heap_is, box_is, makes_address}
 use base.Fraction.{full_share}
 use base.Logic.{emp, id⊢}
 use base.Fml.{flft}
@@ -11,10 +11,12 @@ use denote.Param.NoDrop.{glues}
 use Rattle.std.specs.contracts.impls.GlobalAllocator.TheImpl as heap
 use Rattle.std.proofs.impls.GlobalAllocator.TheImpl.Met.{passed}
 use Rattle.std.proofs.alloc.Global.TheLaws as heap_laws
-use Rattle.s2ix_edit_store.proofs.store.Store.TheLaws as store_laws
 use Rattle.std.specs.contracts.boxed.Box.into_raw as g
 use Rattle.std.proofs.boxed.Box.into_raw.Met.{met}
-use Rattle.s2ix_c_calls.proofs.Dropped.{kept, freed, drops_store}
+use Rattle.s2ix_table_faced.proofs.faced_table.FacedTableDebug.TheImpl.Met as is_shown
+use Rattle.s2ix_table_faced.proofs.faced_table.FacedTableKeptTable.TheImpl.Met as is_followed
+use Rattle.s2ix_table_faced.proofs.faced_table.FacedTableRangeTable.TheImpl.Met as is_asked
+use Rattle.s2ix_c_calls.proofs.Dropped.{kept, freed, drops_store, drops_table}
 use Rattle.s2ix_c_calls.proofs.Destruct++none.drop.Code as dropped
 use Rattle.s2ix_c_calls.specs.Address.{owned_at}
 use Rattle.s2ix_c_calls.specs.contracts.address.Address.of as f
@@ -41,12 +43,31 @@ of_spec {M = M} 𝓤 𝓛 𝓜 𝓡 wired =
     let z : G.Ghost = ((κs, (full_share, (full_share, tt)), tt, (b, tt), (w ∷ [], tt)), tt) in
     nothing ! $ move ! (1 ∷ 0 ∷ []) $ join ! $ move ! (1 ∷ 0 ∷ []) $ join ! $ join ! $
     nothing ! $ use0 𝓛 (raw (fact 𝓤 ((β ∷ []) ⊑ Heap.lives))) (fact_i 𝓤 _ (emp 𝓤) (heap_laws.the_within (β ∷ []))) $ join ! $
-    use0 𝓛 (raw (fact 𝓤 ((α ∷ []) ⊑ Stored.lives))) (fact_i 𝓤 _ (emp 𝓤) (store_laws.the_within (α ∷ []))) $ join ! $
+    use0 𝓛 (raw (fact 𝓤 ((α ∷ []) ⊑ Stored.lives))) (fact_i 𝓤 _ (emp 𝓤) (stored_within (α ∷ []))) $ join ! $
     move ! (1 ∷ 0 ∷ []) $ join ! $ use1 𝓛 (raw (G.pre z)) (id⊢ 𝓤 _) $
-    calls_at ! (framed 𝓤 𝓛.H 𝓜 𝓣) G (met 𝓤 𝓛 𝓜 𝓡 (code.calls-std::boxed::Box::into_raw 𝓡.env wired) (Given Stored) (Given Heap) (given_laws Stored store_laws.the_row_laws refl) (given_laws Heap heap_laws.the_row_laws refl) heap.ghosts heap.dict kept freed
+    calls_at ! (framed 𝓤 𝓛.H 𝓜 𝓣) G (met 𝓤 𝓛 𝓜 𝓡 (code.calls-std::boxed::Box::into_raw 𝓡.env wired) (Given Stored) (Given Heap) (given_laws Stored stored_laws refl) (given_laws Heap heap_laws.the_row_laws refl) heap.ghosts heap.dict kept freed
     (passed 𝓡.env (code.calls-std::impls::GlobalAllocator::allocate 𝓡.env wired) (code.calls-std::impls::GlobalAllocator::deallocate 𝓡.env wired) (code.calls-std::impls::GlobalAllocator::grow 𝓡.env wired) (code.calls-std::impls::GlobalAllocator::shrink 𝓡.env wired) M 𝓤 𝓛 𝓜 𝓡)
     (glues "s2ix_c_calls::Destruct++none::drop" 𝓡.env (code.calls-s2ix_c_calls::Destruct++none::drop 𝓡.env wired) (Given Heap) (given_laws Heap heap_laws.the_row_laws refl) M 𝓤 𝓛 𝓜 𝓡)
-    (drops_store 𝓛 𝓜 𝓡 (code.calls-s2ix_c_calls::s2ix_edit++store++Store+Destruct::drop 𝓡.env wired))) z (and_then ! (get ! refl) (no_more !)) (λ u.
+    (drops_store 𝓛 𝓜 𝓡 (code.calls-s2ix_c_calls::s2ix_edit_store++store++StoreOver+Destruct::drop 𝓡.env wired)
+    (is_followed.passed 𝓡.env (code.calls-s2ix_table_faced::faced_table::FacedTableKeptTable::rebuild 𝓡.env wired)
+    (code.calls-s2ix_table_faced::faced_table::FacedTableKeptTable::rebuilt 𝓡.env wired) M 𝓤 𝓛 𝓜 𝓡)
+    (is_asked.passed 𝓡.env (code.calls-s2ix_table_faced::faced_table::FacedTableRangeTable::build 𝓡.env wired)
+    (code.calls-s2ix_table_faced::faced_table::FacedTableRangeTable::range_count 𝓡.env wired)
+    (code.calls-s2ix_table_faced::faced_table::FacedTableRangeTable::range 𝓡.env wired)
+    (code.calls-s2ix_table_faced::faced_table::FacedTableRangeTable::window 𝓡.env wired)
+    (code.calls-s2ix_table_faced::faced_table::FacedTableRangeTable::border 𝓡.env wired)
+    (code.calls-s2ix_table_faced::faced_table::FacedTableRangeTable::border_start 𝓡.env wired)
+    (code.calls-s2ix_table_faced::faced_table::FacedTableRangeTable::stretch 𝓡.env wired)
+    (code.calls-s2ix_table_faced::faced_table::FacedTableRangeTable::first 𝓡.env wired)
+    (code.calls-s2ix_table_faced::faced_table::FacedTableRangeTable::read_near 𝓡.env wired)
+    (code.calls-s2ix_table_faced::faced_table::FacedTableRangeTable::held_at 𝓡.env wired)
+    (code.calls-s2ix_table_faced::faced_table::FacedTableRangeTable::outer 𝓡.env wired)
+    (code.calls-s2ix_table_faced::faced_table::FacedTableRangeTable::find 𝓡.env wired)
+    (code.calls-s2ix_table_faced::faced_table::FacedTableRangeTable::first_over 𝓡.env wired)
+    (code.calls-s2ix_table_faced::faced_table::FacedTableRangeTable::look_for 𝓡.env wired)
+    (code.calls-s2ix_table_faced::faced_table::FacedTableRangeTable::contents_near 𝓡.env wired) M 𝓤 𝓛 𝓜 𝓡)
+    (is_shown.passed 𝓡.env (code.calls-s2ix_table_faced::faced_table::FacedTableDebug::fmt 𝓡.env wired) M 𝓤 𝓛 𝓜 𝓡)
+    (drops_table 𝓛 𝓜 𝓡 (code.calls-s2ix_c_calls::s2ix_table_faced++faced_table++FacedTable+Destruct::drop 𝓡.env wired)))) z (and_then ! (get ! refl) (no_more !)) (λ u.
     use1 𝓛 (later (some (λ (at : Ptr). ((‵ (flft (α ∷ []) full_share) ⊛ ‵ (flft (β ∷ []) full_share) ⊛ ‵ ftrue) ⊛ ‵ (RawPtr.own_val at (u ∷ []))) ⊛
     some (λ (ls : Lasts (g.ended (Given Stored) (Given Heap) heap.ghosts heap.dict kept freed) κs z.0.3). ‵ (lasts (g.ended (Given Stored) (Given Heap) heap.ghosts heap.dict kept freed) κs z.0.3 ls) ⊛ ‵ (owned_at (Some b.value) alloc at))))) (id⊢ 𝓤 _) $
     await ! tt $ pick ! (λ at. split ! $ move ! (1 ∷ []) $ pick ! (λ ls. split ! $ drop ! $ move ! (1 ∷ []) $ split ! $ drop ! $ feq_l ! (λ answered.
