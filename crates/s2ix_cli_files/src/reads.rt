@@ -88,7 +88,11 @@ pub(crate) fn texts_resumed<T: KeptTable>(
 }
 
 // The store of a bag and the changes that led to it, which it may record.
-fn store_led<T: KeptTable>(alloc: Global, bag: Bag, changes: Vec<Change>) -> Result<StoreOver<T>, TextsError>
+fn store_led<T: KeptTable>(
+    alloc: Global,
+    bag: Bag,
+    changes: Vec<Change>,
+) -> Result<StoreOver<T>, TextsError>
     requires recordable { record_refusal (changes_limit bag.limits) changes.items ≡ None }
     ensures store { IfOk result (λ store. store ≡ led_by bag changes.items) }
     ensures accepted { OnOk result (rewind_refusal bag changes.items ≡ None) }

@@ -1,7 +1,7 @@
 -- Between the pieces of a run, and how it ends.
 use Rattle.std.proofs.Common.{◌≡◌, ℕ, suc, ◌+◌, ◌<◌, ◌≤◌, ◌&&◌, min, Bool, true, false, if◌then◌else◌, Option, Ok, Err, List, [], ◌∷◌, ◌++◌, length, drop, refl, sym, ap, ◌∙◌, subst, inl, inr, append_assoc, append-nil, length-append, arith}
 use Rattle.std.specs.Io.KnownBytes.{Appends, Consumes, Keeps}
-use Rattle.std.proofs.KnownBytes.{Appends-kept, Consumes-trans, Consumes-kept}
+use Rattle.std.proofs.KnownBytes.{Appends-kept, Consumes-kept, Consumes-nil, Consumes-trans}
 use Rattle.s2ix_edit_plan.specs.State.{State}
 use Rattle.s2ix_text_parts.specs.DeviceFaults.{source_faults}
 use Rattle.s2ix_text_parts.specs.Pieces.{ReadsOn}
@@ -21,7 +21,7 @@ use Rattle.s2ix_cli_run.specs.Piece.{RunsPiece, RunsLast, CountsMore, Reached, S
 use Rattle.s2ix_cli_run.specs.Run.{SourceEnd, AreRead, Flushes, Ran, KeepsOn, IsStateAfter, Finishes, line_left}
 use Rattle.s2ix_cli_run.specs.Script.{MOST, Run, after, run_lines, counted_in, output_of, refused_in}
 use Rattle.s2ix_cli_run.proofs.Feeds.{ended_after-append, unended_after-append, script_lines-ended}
-use Rattle.s2ix_cli_run.proofs.LineSteps.{over, after-append, KeepsOn-append, StandsAfter-append, CountsMore-append, Reached-append, run_lines-append, run_lines-all, run_lines-stop, refused_in-append}
+use Rattle.s2ix_cli_run.proofs.LineSteps.{over, after-append, KeepsOn-append, StandsAfter-append, CountsMore-append, Reached-append, run_lines-append, run_lines-all, run_lines-stop, refused_in-append, StandsAfter-none, CountsMore-none}
 
 -- the counts before the first line
 abbrev pub none_so_far : RunEnd
@@ -64,6 +64,17 @@ pub record Between (left left' held : Option (List ℕ)) (run : Run) (so_far : R
   pub consumed : Consumes left left' input
   pub is_held : held ≡ kept_of (unended_after [] input)
   pub reached : Reached (ended_lines input) run none_so_far so_far
+
+-- nothing was read yet
+pub Between-none : (left held : Option (List ℕ)) (stop : Bool) (s : State) (taken : Option (List ℕ)) → held ≡ kept_of []
+    → Between left left held (over stop s s taken taken) none_so_far
+Between-none left held stop s taken is =
+    record {
+      input = [];
+      consumed = Consumes-nil left;
+      is_held = is;
+      reached = record { keeps_on = λ e. refl; stands = StandsAfter-none stop s taken; counts = CountsMore-none s none_so_far };
+    }
 
 Reached-kept : (stop : Bool) (lines : List (List ℕ)) (old new : State) (before between past : Option (List ℕ)) (so_far more : RunEnd)
     → Reached lines (over stop old new before between) so_far more → Keeps between past

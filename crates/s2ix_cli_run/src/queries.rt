@@ -77,7 +77,10 @@ pub(crate) fn print_labels<T: KeptTable, K: Sink>(
 }
 
 // Prints the ranges of the store's table.
-pub(crate) fn print_ranges<T: KeptTable, K: Sink>(store: &StoreOver<T>, sink: &mut K) -> Result<LineOutcome, RunFault>
+pub(crate) fn print_ranges<T: KeptTable, K: Sink>(
+    store: &StoreOver<T>,
+    sink: &mut K,
+) -> Result<LineOutcome, RunFault>
     requires { CanCount (K.fault_count sink.old) }
     ensures runs { RunsLine (text_step store.now (list_text range_line (range_table store.now.bag.held)))
         store.now store.now (K.taken sink.old) (K.taken sink.new) result }

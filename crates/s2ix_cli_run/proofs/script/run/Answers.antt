@@ -1,13 +1,18 @@
 -- A piece is carried out after those before it; the piece with no byte is the end.
-use Rattle.std.proofs.Common.{◌+◌, ◌<◌, [], take, refl, sym, ap, ◌∙◌, inr, subst, arith}
+use Rattle.std.proofs.Common.{◌+◌, ◌<◌, [], take, refl, sym, ap, ◌∙◌, inl, inr, subst, arith}
 use Rattle.std.proofs.lemmas.Result.{err_from_is_err_and}
 use Rattle.s2ix_cli_run.specs.Coming.{unended_after}
 use Rattle.s2ix_cli_run.specs.Run.{BringsLast, EndWasRead}
-use Rattle.s2ix_cli_run.proofs.Between.{AnswersInTurn-more, FaultAmong-asks, Between-last, Between-more, Between-flushing, Between-fault, Between-fault_last, Between-ends, Between-reading, Between-ended, Between-ends_flushing, Between-stops, FaultAmong-flushes, FaultAmong-reads, FaultAmong-source, ReadsOn-more, goes_on, stops_at}
+use Rattle.s2ix_cli_run.proofs.Between.{AnswersInTurn-more, FaultAmong-asks, Between-last, Between-more, Between-flushing, Between-fault, Between-fault_last, Between-none, Between-ends, Between-reading, Between-ended, Between-ends_flushing, Between-stops, FaultAmong-flushes, FaultAmong-reads, FaultAmong-source, ReadsOn-more, goes_on, stops_at}
 use Rattle.s2ix_cli_run.proofs.LineSteps.{plus_none}
 use Rattle.s2ix_cli_run.proofs.script.run.Given.{Over}
 use Rattle.s2ix_cli_run.proofs.script.run.Goals.{After-run_last}
 use Rattle.s2ix_cli_run.proofs.script.run.Goals as goal
+
+-- ---- before the first piece
+
+pub pieces-init : goal.pieces-init
+pieces-init g c = (Between-none _ _ _ _ _ c.new-held.ensures, refl, inl refl, refl, refl, (refl, refl))
 
 -- ---- no more can be read
 
