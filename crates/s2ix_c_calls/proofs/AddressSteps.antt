@@ -42,7 +42,7 @@ use Rattle.s2ix_table_faced.specs.contracts.faced_table.FacedTable as table
 use Rattle.s2ix_table_faced.specs.contracts.faced_table.FacedTableDebug.TheImpl as shown
 use Rattle.s2ix_table_faced.specs.contracts.faced_table.FacedTableRangeTable.TheImpl as ranges
 use Rattle.s2ix_table_faced.proofs.faced_table.FacedTable.TheLaws as table_laws
-use Rattle.s2ix_edit_store.proofs.store.StoreOver.TheLaws as store_laws
+use Rattle.s2ix_edit_store.proofs.store.Store.TheLaws as store_laws
 use denote.RattleType.{RattleType}
 use Rattle.s2ix_edit_plan.specs.State.{State}
 pub use Rattle.s2ix_c_calls.specs.Address.{Stored}

@@ -29,9 +29,9 @@ use Rattle.s2ix_c_calls.proofs.AddressSteps.{Given, given_laws, Heap, Stored}
 use Rattle.s2ix_c_calls.specs.contracts.s2ix_table_faced++faced_table++FacedTable+Destruct.drop as table_f
 use Rattle.s2ix_c_calls.proofs.s2ix_table_faced++faced_table++FacedTable+Destruct.drop.Symbol as table_symbol
 use Rattle.s2ix_c_calls.proofs.s2ix_table_faced++faced_table++FacedTable+Destruct.drop.Met as table_met
-use Rattle.s2ix_c_calls.specs.contracts.s2ix_edit_store++store++StoreOver+Destruct.drop as f
-use Rattle.s2ix_c_calls.proofs.s2ix_edit_store++store++StoreOver+Destruct.drop.Symbol as symbol
-use Rattle.s2ix_c_calls.proofs.s2ix_edit_store++store++StoreOver+Destruct.drop.Met.{met}
+use Rattle.s2ix_c_calls.specs.contracts.s2ix_edit_store++store++Store+Destruct.drop as f
+use Rattle.s2ix_c_calls.proofs.s2ix_edit_store++store++Store+Destruct.drop.Symbol as symbol
+use Rattle.s2ix_c_calls.proofs.s2ix_edit_store++store++Store+Destruct.drop.Met.{met}
 
 abbrev pub kept : Dict
 kept = impl ("s2ix_c_calls::Destruct++none::drop" ∷ []) (tcons (layout (Given Heap)) tnil) dnil
@@ -51,7 +51,7 @@ abbrev pub told : Dict
 told = dcons follows.dict (dcons ranges.dict (dcons shown.dict (dcons table_freed dnil)))
 
 abbrev pub freed : Dict
-freed = impl ("s2ix_c_calls::s2ix_edit_store++store++StoreOver+Destruct::drop" ∷ []) (tcons (layout Table) tnil) told
+freed = impl ("s2ix_c_calls::s2ix_edit_store++store++Store+Destruct::drop" ∷ []) (tcons (layout Table) tnil) told
 
 pub drops_table : {M : Type 1} {𝓤 : Ura M} (𝓛 : Logic 𝓤) (𝓜 : Model 𝓤 𝓛.H) (𝓡 : Running 𝓤 𝓛.H 𝓜) → Wired 𝓡.env table_symbol.code → Met 𝓛 𝓜 𝓡 𝓡.env Table table_freed
 drops_table {𝓤 = 𝓤} 𝓛 𝓜 𝓡 wired =

@@ -7,7 +7,7 @@ use Rattle.std.specs.contracts.impls.GlobalAllocator.TheImpl.{ghosts}
 use Rattle.s2ix_table_faced.specs.contracts.faced_table.FacedTable as table
 use Rattle.s2ix_table_faced.specs.contracts.faced_table.FacedTableDebug.TheImpl as shown
 use Rattle.s2ix_table_faced.specs.contracts.faced_table.FacedTableRangeTable.TheImpl as ranges
-use Rattle.s2ix_edit_store.specs.contracts.store.StoreOver as store
+use Rattle.s2ix_edit_store.specs.contracts.store.Store as store
 use Rattle.s2ix_edit_plan.specs.State.{State}
 use base.Fml.{Fml, ftrue}
 use denote.RattleType.{RattleType}

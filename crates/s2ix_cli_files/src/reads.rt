@@ -14,7 +14,7 @@ use crate::refusal::{Refusal, TextsError};
 use s2ix_bag::{replay, rewind};
 use s2ix_bag_changes::{Bag, Change};
 use s2ix_bag_pairs::Limits;
-use s2ix_edit_store::{HistoryError, StoreOver};
+use s2ix_edit_store::{HistoryError, Store};
 use s2ix_table_kept::KeptTable;
 use s2ix_text::{DumpError, read_dump, read_journal};
 use std::alloc::Global;
@@ -76,7 +76,7 @@ pub(crate) fn texts_resumed<T: KeptTable>(
     dump: &[u8],
     journal: &[u8],
     limits: Limits,
-) -> Result<StoreOver<T>, TextsError>
+) -> Result<Store<T>, TextsError>
     ensures store { IfOk result (Resumes limits dump.now journal.now) }
     ensures first { OnOk result ((first : LimitedCollection) × TextsRewind limits dump.now journal.now (Ok first)) }
     ensures refused { IfErr result (IsRefusedBy (TextsRewind limits dump.now journal.now)) }
@@ -92,14 +92,14 @@ fn store_led<T: KeptTable>(
     alloc: Global,
     bag: Bag,
     changes: Vec<Change>,
-) -> Result<StoreOver<T>, TextsError>
+) -> Result<Store<T>, TextsError>
     requires recordable { record_refusal (changes_limit bag.limits) changes.items ≡ None }
     ensures store { IfOk result (λ store. store ≡ led_by bag changes.items) }
     ensures accepted { OnOk result (rewind_refusal bag changes.items ≡ None) }
     ensures refused { IfErr result (IsRefusedBy (RewindLeads bag changes.items)) }
     ensures memory { IfErr result (IsWantOf (first_refusal bag (take 1 (way_back (with_numbers changes.items))) ≡ None)) }
 {
-    match StoreOver::with_history(alloc, bag, changes) {
+    match Store::with_history(alloc, bag, changes) {
         Ok(store) => Ok(store),
         Err(HistoryError::JournalFull) => unreachable!(),
         Err(HistoryError::NoChange { change: _ }) => unreachable!(),

@@ -8,14 +8,14 @@ ghost use Rattle.s2ix_cli_files.specs.Reads.{Resumes};
 use crate::printing::print_refusal;
 use crate::reads::texts_resumed;
 use s2ix_bag_pairs::Limits;
-use s2ix_edit_store::StoreOver;
+use s2ix_edit_store::Store;
 use s2ix_table_kept::KeptTable;
 use s2ix_text_parts::{RunFault, Sink};
 use std::alloc::Global;
 
 /// Reads a dump and then the journal that led to it under limits, and gives the store that goes on from there: its bag is the dump's, and
 /// the journal's changes can be undone. Else it prints the first thing that is refused, as [`rewind_texts`](crate::rewind_texts) does, and
-/// returns `None`. It takes the time of the readers and of [`StoreOver::with_history`]. Errors: `OutOfMemory` and `Write`, as
+/// returns `None`. It takes the time of the readers and of [`Store::with_history`]. Errors: `OutOfMemory` and `Write`, as
 /// `s2ix_cli_files` says.
 pub fn resume_texts<T: KeptTable, K: Sink>(
     alloc: Global,
@@ -23,7 +23,7 @@ pub fn resume_texts<T: KeptTable, K: Sink>(
     journal: &[u8],
     limits: Limits,
     sink: &mut K,
-) -> Result<Option<StoreOver<T>>, RunFault>
+) -> Result<Option<Store<T>>, RunFault>
     requires { CanCount (K.fault_count sink.old) }
     ensures answered { Prints K.Sink (ResumeAnswers limits dump.now journal.now) sink.old sink.new (is_loaded result) }
     ensures store { IfOk result (λ resumed. IfSome resumed (Resumes limits dump.now journal.now)) }

@@ -14,7 +14,7 @@ use crate::run_end::RunEnd;
 use bstr::ByteSlice;
 use s2ix_cli_answers::write_no;
 use s2ix_cli_script::LineFault;
-use s2ix_edit_store::StoreOver;
+use s2ix_edit_store::Store;
 use s2ix_table_kept::KeptTable;
 use s2ix_text_parts::{RunFault, Sink};
 use std::alloc::Global;
@@ -31,7 +31,7 @@ pub(crate) enum PieceEnd {
 // Carries out the lines that end in a piece, and holds what is left after them. With `stop` the first refused line is the last one.
 pub(crate) fn run_piece<T: KeptTable, K: Sink>(
     alloc: Global,
-    store: &mut StoreOver<T>,
+    store: &mut Store<T>,
     sink: &mut K,
     held: &mut HeldLine,
     so_far: RunEnd,
@@ -67,7 +67,7 @@ pub(crate) fn run_piece<T: KeptTable, K: Sink>(
 // Carries out what is held at the end of the input, which is its last line if it has a byte.
 pub(crate) fn run_last<T: KeptTable, K: Sink>(
     alloc: Global,
-    store: &mut StoreOver<T>,
+    store: &mut Store<T>,
     sink: &mut K,
     held: &mut HeldLine,
     so_far: RunEnd,
@@ -95,7 +95,7 @@ pub(crate) fn run_last<T: KeptTable, K: Sink>(
 #[inline(always)]
 fn run_one<T: KeptTable, K: Sink>(
     alloc: Global,
-    store: &mut StoreOver<T>,
+    store: &mut Store<T>,
     sink: &mut K,
     held: &mut HeldLine,
     end: &[u8],
@@ -120,7 +120,7 @@ fn run_one<T: KeptTable, K: Sink>(
 #[inline(never)]
 fn run_held<T: KeptTable, K: Sink>(
     alloc: Global,
-    store: &mut StoreOver<T>,
+    store: &mut Store<T>,
     sink: &mut K,
     held: &HeldLine,
 ) -> Result<LineOutcome, RunFault>

@@ -13,7 +13,7 @@ use crate::steps::print_step;
 use s2id_cube::to_face_ij;
 use s2ix_cli_answers::{write_neighbors, write_no, write_ok, write_path, write_square};
 use s2ix_cli_script::{Instruction, LineError, meaning};
-use s2ix_edit_store::StoreOver;
+use s2ix_edit_store::Store;
 use s2ix_table_kept::KeptTable;
 use s2ix_text_parts::{RunFault, Sink};
 use s2ix_text_write::{write_dump, write_journal, write_list};
@@ -28,7 +28,7 @@ use std::alloc::Global;
 #[tactic(auto, using(crate::proofs::WantedMemory::line_wants), unfolding(crate::specs::Step::step_of))]
 pub fn run_line<T: KeptTable, K: Sink>(
     alloc: Global,
-    store: &mut StoreOver<T>,
+    store: &mut Store<T>,
     sink: &mut K,
     line: &[u8],
 ) -> Result<LineOutcome, RunFault>
@@ -59,7 +59,7 @@ pub fn run_line<T: KeptTable, K: Sink>(
 /// instruction does is done, and a front of its answer went out.
 pub fn run_instruction<T: KeptTable, K: Sink>(
     alloc: Global,
-    store: &mut StoreOver<T>,
+    store: &mut Store<T>,
     sink: &mut K,
     instruction: Instruction,
 ) -> Result<LineOutcome, RunFault>

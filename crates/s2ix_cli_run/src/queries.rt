@@ -15,7 +15,7 @@ use s2id_core::CellId;
 use s2id_union::CellUnion;
 use s2ix_cli_answers::{write_contents, write_meeting, write_no, write_ranges};
 use s2ix_cli_script::not_leaf_name;
-use s2ix_edit_store::StoreOver;
+use s2ix_edit_store::Store;
 use s2ix_table_kept::KeptTable;
 use s2ix_table_queries::RangeTable;
 use s2ix_text_parts::{RunFault, Sink, put_parts};
@@ -24,7 +24,7 @@ use std::alloc::Global;
 
 // Prints what lies over a leaf.
 pub(crate) fn run_at<T: KeptTable, K: Sink>(
-    store: &StoreOver<T>,
+    store: &Store<T>,
     sink: &mut K,
     cell: CellId,
 ) -> Result<LineOutcome, RunFault>
@@ -44,7 +44,7 @@ pub(crate) fn run_at<T: KeptTable, K: Sink>(
 
 // Prints the pairs that meet a target, each as it is found.
 pub(crate) fn print_meeting<T: KeptTable, K: Sink>(
-    store: &StoreOver<T>,
+    store: &Store<T>,
     sink: &mut K,
     target: &CellUnion,
 ) -> Result<LineOutcome, RunFault>
@@ -62,7 +62,7 @@ pub(crate) fn print_meeting<T: KeptTable, K: Sink>(
 // Prints the labels of the pairs that meet a target.
 pub(crate) fn print_labels<T: KeptTable, K: Sink>(
     alloc: Global,
-    store: &StoreOver<T>,
+    store: &Store<T>,
     sink: &mut K,
     target: &CellUnion,
 ) -> Result<LineOutcome, RunFault>
@@ -78,7 +78,7 @@ pub(crate) fn print_labels<T: KeptTable, K: Sink>(
 
 // Prints the ranges of the store's table.
 pub(crate) fn print_ranges<T: KeptTable, K: Sink>(
-    store: &StoreOver<T>,
+    store: &Store<T>,
     sink: &mut K,
 ) -> Result<LineOutcome, RunFault>
     requires { CanCount (K.fault_count sink.old) }
@@ -95,7 +95,7 @@ pub(crate) fn print_ranges<T: KeptTable, K: Sink>(
 // Prints the export of what the store holds.
 pub(crate) fn print_export<T: KeptTable, K: Sink>(
     alloc: Global,
-    store: &StoreOver<T>,
+    store: &Store<T>,
     sink: &mut K,
 ) -> Result<LineOutcome, RunFault>
     requires { CanCount (K.fault_count sink.old) }

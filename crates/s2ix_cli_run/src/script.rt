@@ -8,7 +8,7 @@ ghost use Rattle.s2ix_cli_run.specs.Run.{Ran, Flushes, source_end};
 use crate::coming::{PieceEnd, run_last, run_piece};
 use crate::held_line::HeldLine;
 use crate::run_end::{RunEnd, RunOptions};
-use s2ix_edit_store::StoreOver;
+use s2ix_edit_store::Store;
 use s2ix_table_kept::KeptTable;
 use s2ix_text_parts::{RunFault, Sink, Source};
 use std::alloc::Global;
@@ -31,7 +31,7 @@ pub fn run<T: KeptTable, S: Source, K: Sink>(
     alloc: Global,
     source: &mut S,
     sink: &mut K,
-    store: &mut StoreOver<T>,
+    store: &mut Store<T>,
     options: RunOptions,
 ) -> Result<RunEnd, RunFault>
     requires source_counts { CanCount (S.fault_count source.old) }

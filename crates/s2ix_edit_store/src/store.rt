@@ -52,7 +52,7 @@ use std::marker::Model;
 /// A collection with its history and its range table. Contracts see a store as its bag, the changes that were done and undone, and how
 /// many faces its last step rebuilt. The table is always the bag's.
 #[derive(Debug, Drop)]
-pub struct StoreOver<T: KeptTable> {
+pub struct Store<T: KeptTable> {
     alloc: Global,
     bag: Bag,
     table: SharedTable<T>,
@@ -61,7 +61,7 @@ pub struct StoreOver<T: KeptTable> {
     faces_rebuilt: u8,
 }
 
-impl<T: KeptTable> Model for StoreOver<T> {
+impl<T: KeptTable> Model for Store<T> {
     ghost use Rattle.std.specs.Prelude.{◌≡◌};
     ghost use Rattle.s2ix_edit_plan.specs.State.{State};
     ghost use Rattle.s2ix_edit_store.specs.Store.{IsStore};
@@ -80,36 +80,36 @@ impl<T: KeptTable> Model for StoreOver<T> {
         × (s.table ≡ s.bag.held) };
 }
 
-impl<T: KeptTable> StoreOver<T> {
+impl<T: KeptTable> Store<T> {
     /// A store of the empty collection, with nothing to undo or redo. `OutOfMemory` if a growth of its table is refused. O(1).
-    pub fn new(alloc: Global, limits: Limits) -> Result<StoreOver<T>, OutOfMemory>
+    pub fn new(alloc: Global, limits: Limits) -> Result<Store<T>, OutOfMemory>
         ensures state { IfOk result (λ store.
             store ≡ starting_at (record { limits = limits; held = [] })) }
         ensures history { IfOk result (λ store. history_of store ≡ alone []) }
     {
-        StoreOver::from_bag(alloc, Bag::empty(alloc, limits))
+        Store::from_bag(alloc, Bag::empty(alloc, limits))
     }
 
     /// A store that starts from its bag, with the bag's limits and nothing to undo or redo. `OutOfMemory` if a growth of its table is
     /// refused; then the bag is dropped. O(n) for n pairs.
-    pub fn from_bag(alloc: Global, bag: Bag) -> Result<StoreOver<T>, OutOfMemory>
+    pub fn from_bag(alloc: Global, bag: Bag) -> Result<Store<T>, OutOfMemory>
         ensures state { IfOk result (λ store. store ≡ starting_at bag) }
         ensures history { IfOk result (λ store. history_of store ≡ alone bag.held) }
     {
         let table = SharedTable::build(alloc, &bag)?;
-        Ok(StoreOver::starting(alloc, bag, table))
+        Ok(Store::starting(alloc, bag, table))
     }
 
     /// A store that goes on from a history: it starts from its bag, with the bag's limits, and `changes`, the oldest first, can be undone as if
     /// it had done them. The last of them led to the bag. Nothing can be redone. So a store comes back from its bag and what
-    /// [`done`](StoreOver::done) gives. [`HistoryError`] says when the changes are refused: they are tested from the last on, as
+    /// [`done`](Store::done) gives. [`HistoryError`] says when the changes are refused: they are tested from the last on, as
     /// [`rewind`](s2ix_bag::rewind) does. `OutOfMemory` if a growth is refused; it comes in place of no refusal but that of a change before
     /// the last. After a refusal bag and changes are dropped. O(n + m log n) for n pairs and m entries in all changes. This project's own.
     pub fn with_history(
         alloc: Global,
         bag: Bag,
         changes: Vec<Change>,
-    ) -> Result<StoreOver<T>, HistoryError>
+    ) -> Result<Store<T>, HistoryError>
         ensures state { IfOk result (λ store. store ≡ led_by bag changes.items) }
         ensures accepted { OnOk result (history_refusal bag changes.items ≡ None) }
         ensures refused { IfErr result (λ error. IsHistoryError error (history_refusal bag changes.items)) }
@@ -119,7 +119,7 @@ impl<T: KeptTable> StoreOver<T> {
     {
         test_history(alloc, &bag, changes.as_slice())?;
         let table = SharedTable::build(alloc, &bag)?;
-        Ok(StoreOver {
+        Ok(Store {
             alloc,
             bag,
             table,
@@ -130,11 +130,11 @@ impl<T: KeptTable> StoreOver<T> {
     }
 
     // The store of a bag and its table, with nothing to undo or redo.
-    fn starting(alloc: Global, bag: Bag, table: SharedTable<T>) -> StoreOver<T>
+    fn starting(alloc: Global, bag: Bag, table: SharedTable<T>) -> Store<T>
         requires { table ≡ bag.held }
         ensures { result ≡ starting_at bag }
     {
-        StoreOver {
+        Store {
             alloc,
             bag,
             table,
@@ -147,13 +147,13 @@ impl<T: KeptTable> StoreOver<T> {
     /// A store that starts from this one's collection, with the same limits and nothing to undo or redo. The two share pairs and table, and each
     /// is edited by itself, on whatever thread. It does not allocate. O(1); the first step of one of them then costs O(p) more for p parts,
     /// since it makes a table of its own, which shares the parts that stay. `OutOfMemory` if pairs or table are shared too often.
-    pub fn copied(&self) -> Result<StoreOver<T>, OutOfMemory>
+    pub fn copied(&self) -> Result<Store<T>, OutOfMemory>
         ensures state { IfOk result (λ store. store ≡ starting_at self.now.bag) }
         ensures history { IfOk result (λ store. history_of store ≡ alone self.now.bag.held) }
     {
         let bag = self.bag.copied(self.alloc)?;
         let table = self.table.copied()?;
-        Ok(StoreOver::starting(self.alloc, bag, table))
+        Ok(Store::starting(self.alloc, bag, table))
     }
 
     /// Carries an edit out, and returns how many pairs changed their counts. An accepted edit records the change at the end of `done` and
@@ -418,7 +418,7 @@ impl<T: KeptTable> StoreOver<T> {
     /// itself, and what could be redone is gone. Returns how many pairs have another count than before. If there are no changes, nothing
     /// happens. [`HistoryError`] says when they are refused; then nothing changes, and they are dropped. `OutOfMemory` if a growth is
     /// refused; it comes in place of no refusal but that of a change after the first. It costs O(m log n + q + k) for m entries in all
-    /// changes, with q and k as for [`edit`](StoreOver::edit): one change costs about what [`record`](StoreOver::record) does. This project's own.
+    /// changes, with q and k as for [`edit`](Store::edit): one change costs about what [`record`](Store::record) does. This project's own.
     pub fn apply(&mut self, changes: Vec<Change>) -> Result<usize, HistoryError>
         ensures state { OnOk result (self.new ≡ after_apply self.old changes.items) }
         ensures history { OnOk result (history_of self.new ≡ with_changes changes.items (history_of self.old)) }

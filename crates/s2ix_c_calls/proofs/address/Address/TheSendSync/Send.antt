@@ -11,7 +11,7 @@ use Rattle.s2ix_table_faced.specs.contracts.faced_table.FacedTable as table
 use Rattle.s2ix_table_faced.specs.contracts.faced_table.FacedTableDebug.TheImpl as shown
 use Rattle.s2ix_table_faced.specs.contracts.faced_table.FacedTableRangeTable.TheImpl as ranges
 use Rattle.s2ix_table_faced.proofs.faced_table.FacedTable.TheSendSync as crossing
-use Rattle.s2ix_edit_store.proofs.store.StoreOver.TheSendSync as store
+use Rattle.s2ix_edit_store.proofs.store.Store.TheSendSync as store
 use Rattle.s2ix_edit_plan.specs.State.{State}
 use Rattle.s2ix_c_calls.proofs.AddressSteps.{Stored}
 use Rattle.s2ix_c_calls.specs.Address.{owned_at}

@@ -48,7 +48,7 @@ of_spec {M = M} 𝓤 𝓛 𝓜 𝓡 wired =
     calls_at ! (framed 𝓤 𝓛.H 𝓜 𝓣) G (met 𝓤 𝓛 𝓜 𝓡 (code.calls-std::boxed::Box::into_raw 𝓡.env wired) (Given Stored) (Given Heap) (given_laws Stored stored_laws refl) (given_laws Heap heap_laws.the_row_laws refl) heap.ghosts heap.dict kept freed
     (passed 𝓡.env (code.calls-std::impls::GlobalAllocator::allocate 𝓡.env wired) (code.calls-std::impls::GlobalAllocator::deallocate 𝓡.env wired) (code.calls-std::impls::GlobalAllocator::grow 𝓡.env wired) (code.calls-std::impls::GlobalAllocator::shrink 𝓡.env wired) M 𝓤 𝓛 𝓜 𝓡)
     (glues "s2ix_c_calls::Destruct++none::drop" 𝓡.env (code.calls-s2ix_c_calls::Destruct++none::drop 𝓡.env wired) (Given Heap) (given_laws Heap heap_laws.the_row_laws refl) M 𝓤 𝓛 𝓜 𝓡)
-    (drops_store 𝓛 𝓜 𝓡 (code.calls-s2ix_c_calls::s2ix_edit_store++store++StoreOver+Destruct::drop 𝓡.env wired)
+    (drops_store 𝓛 𝓜 𝓡 (code.calls-s2ix_c_calls::s2ix_edit_store++store++Store+Destruct::drop 𝓡.env wired)
     (is_followed.passed 𝓡.env (code.calls-s2ix_table_faced::faced_table::FacedTableKeptTable::rebuild 𝓡.env wired)
     (code.calls-s2ix_table_faced::faced_table::FacedTableKeptTable::rebuilt 𝓡.env wired) M 𝓤 𝓛 𝓜 𝓡)
     (is_asked.passed 𝓡.env (code.calls-s2ix_table_faced::faced_table::FacedTableRangeTable::build 𝓡.env wired)
