@@ -41,7 +41,9 @@ use Rattle.std.proofs.boxed.Box.TheLaws as box_laws
 use Rattle.s2ix_table_faced.specs.contracts.faced_table.FacedTable as table
 use Rattle.s2ix_table_faced.specs.contracts.faced_table.FacedTableDebug.TheImpl as shown
 use Rattle.s2ix_table_faced.specs.contracts.faced_table.FacedTableRangeTable.TheImpl as ranges
+use Rattle.s2ix_table_faced.specs.contracts.part_place.FacedPlace as place
 use Rattle.s2ix_table_faced.proofs.faced_table.FacedTable.TheLaws as table_laws
+use Rattle.s2ix_table_faced.proofs.part_place.FacedPlace.TheLaws as place_laws
 use Rattle.s2ix_edit_store.proofs.store.Store.TheLaws as store_laws
 use denote.RattleType.{RattleType}
 use Rattle.s2ix_edit_plan.specs.State.{State}
@@ -53,11 +55,11 @@ pub use Rattle.std.specs.contracts.alloc.Global.{the_row as Heap}
 
 -- what holds of a store's type
 abbrev pub stored_laws : Laws Stored
-stored_laws = store_laws.the_row_laws table.the_row ranges.ghosts shown.ghosts table_laws.the_row_laws
+stored_laws = store_laws.the_row_laws table.the_row place.the_row ranges.ghosts shown.ghosts table_laws.the_row_laws place_laws.the_row_laws
 
 -- a store borrows nothing, since its table doesn't
 pub stored_within : (κ : Lft) → κ ⊑ Stored.lives
-stored_within κ = store_laws.the_within table.the_row ranges.ghosts shown.ghosts κ (table_laws.the_within κ)
+stored_within κ = store_laws.the_within table.the_row place.the_row ranges.ghosts shown.ghosts κ (table_laws.the_within κ) (place_laws.the_within κ)
 
 -- a type as a call is given it: its layout stands without names
 abbrev pub Given : RattleType → RattleType

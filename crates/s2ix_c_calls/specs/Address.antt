@@ -7,6 +7,7 @@ use Rattle.std.specs.contracts.impls.GlobalAllocator.TheImpl.{ghosts}
 use Rattle.s2ix_table_faced.specs.contracts.faced_table.FacedTable as table
 use Rattle.s2ix_table_faced.specs.contracts.faced_table.FacedTableDebug.TheImpl as shown
 use Rattle.s2ix_table_faced.specs.contracts.faced_table.FacedTableRangeTable.TheImpl as ranges
+use Rattle.s2ix_table_faced.specs.contracts.part_place.FacedPlace as place
 use Rattle.s2ix_edit_store.specs.contracts.store.Store as store
 use Rattle.s2ix_edit_plan.specs.State.{State}
 use base.Fml.{Fml, ftrue}
@@ -15,7 +16,7 @@ use denote.RawPtr.{Ptr}
 
 -- the type of a store, with its table
 abbrev pub Stored : RattleType
-Stored = store.the_row table.the_row ranges.ghosts shown.ghosts
+Stored = store.the_row table.the_row place.the_row ranges.ghosts shown.ghosts
 
 -- the logic's code of a state that may be there
 abbrev pub code_of_state : Coded (Option State)

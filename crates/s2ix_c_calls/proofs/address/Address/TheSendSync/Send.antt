@@ -10,6 +10,7 @@ use Rattle.std.specs.Global.{Global}
 use Rattle.s2ix_table_faced.specs.contracts.faced_table.FacedTable as table
 use Rattle.s2ix_table_faced.specs.contracts.faced_table.FacedTableDebug.TheImpl as shown
 use Rattle.s2ix_table_faced.specs.contracts.faced_table.FacedTableRangeTable.TheImpl as ranges
+use Rattle.s2ix_table_faced.specs.contracts.part_place.FacedPlace as place
 use Rattle.s2ix_table_faced.proofs.faced_table.FacedTable.TheSendSync as crossing
 use Rattle.s2ix_edit_store.proofs.store.Store.TheSendSync as store
 use Rattle.s2ix_edit_plan.specs.State.{State}
@@ -18,7 +19,7 @@ use Rattle.s2ix_c_calls.specs.Address.{owned_at}
 use Rattle.s2ix_c_calls.specs.contracts.address.Address.{the_row, the_type}
 
 stored_send : IsSend Stored
-stored_send = store.the_send table.the_row ranges.ghosts shown.ghosts crossing.the_send crossing.the_sync
+stored_send = store.the_send table.the_row place.the_row ranges.ghosts shown.ghosts crossing.the_send crossing.the_sync
 
 pointer_send : IsSend RawPtr
 pointer_send = search sendable

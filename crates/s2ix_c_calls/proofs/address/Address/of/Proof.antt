@@ -13,10 +13,11 @@ use Rattle.std.proofs.impls.GlobalAllocator.TheImpl.Met.{passed}
 use Rattle.std.proofs.alloc.Global.TheLaws as heap_laws
 use Rattle.std.specs.contracts.boxed.Box.into_raw as g
 use Rattle.std.proofs.boxed.Box.into_raw.Met.{met}
+use Rattle.std.below.core.proofs.clone.Clone+copy.TheImpl.Met as are_cloned
 use Rattle.s2ix_table_faced.proofs.faced_table.FacedTableDebug.TheImpl.Met as is_shown
 use Rattle.s2ix_table_faced.proofs.faced_table.FacedTableKeptTable.TheImpl.Met as is_followed
 use Rattle.s2ix_table_faced.proofs.faced_table.FacedTableRangeTable.TheImpl.Met as is_asked
-use Rattle.s2ix_c_calls.proofs.Dropped.{kept, freed, drops_store, drops_table}
+use Rattle.s2ix_c_calls.proofs.Dropped.{kept, freed, drops_store, drops_table, Place, given_place_laws, given_place_copy}
 use Rattle.s2ix_c_calls.proofs.Destruct++none.drop.Code as dropped
 use Rattle.s2ix_c_calls.specs.Address.{owned_at}
 use Rattle.s2ix_c_calls.specs.contracts.address.Address.of as f
@@ -31,6 +32,24 @@ unfolding dropped.code
 of_spec {M = M} 𝓤 𝓛 𝓜 𝓡 wired =
     let c = f.clauses 𝓛 𝓜.mem 𝓡.returns in let W = walk_of 𝓛 f.ended stayed c in let 𝓣 = tables 𝓤 𝓛.H 𝓜 𝓡 𝓡.env in
     proved_at 𝓛 f.ended stayed c 𝓜 𝓡 (Goes-dropped 𝓛 0 (plain (λ _. Heap)) yes (λ κs x w. refl), (Goes-dropped 𝓛 0 (plain (λ _. Boxed)) yes (λ κs x w. refl), tt)) f.Key.name code.function (code.unfolded 𝓤 𝓛.H 𝓜 𝓡 wired) (λ y are.
+    let follows = is_followed.bound 𝓡.env (code.calls-s2ix_table_faced::faced_table::FacedTableKeptTable::rebuild 𝓡.env wired)
+    (code.calls-s2ix_table_faced::faced_table::FacedTableKeptTable::rebuilt 𝓡.env wired) M 𝓤 𝓛 𝓜 𝓡 in
+    let asks = is_asked.bound 𝓡.env (code.calls-s2ix_table_faced::faced_table::FacedTableRangeTable::build 𝓡.env wired)
+    (code.calls-s2ix_table_faced::faced_table::FacedTableRangeTable::range_count 𝓡.env wired)
+    (code.calls-s2ix_table_faced::faced_table::FacedTableRangeTable::range 𝓡.env wired)
+    (code.calls-s2ix_table_faced::faced_table::FacedTableRangeTable::window 𝓡.env wired)
+    (code.calls-s2ix_table_faced::faced_table::FacedTableRangeTable::border 𝓡.env wired)
+    (code.calls-s2ix_table_faced::faced_table::FacedTableRangeTable::border_start 𝓡.env wired)
+    (code.calls-s2ix_table_faced::faced_table::FacedTableRangeTable::stretch 𝓡.env wired)
+    (code.calls-s2ix_table_faced::faced_table::FacedTableRangeTable::first 𝓡.env wired)
+    (code.calls-s2ix_table_faced::faced_table::FacedTableRangeTable::read_near 𝓡.env wired)
+    (code.calls-s2ix_table_faced::faced_table::FacedTableRangeTable::held_at 𝓡.env wired)
+    (code.calls-s2ix_table_faced::faced_table::FacedTableRangeTable::outer 𝓡.env wired)
+    (code.calls-s2ix_table_faced::faced_table::FacedTableRangeTable::find 𝓡.env wired)
+    (code.calls-s2ix_table_faced::faced_table::FacedTableRangeTable::first_over 𝓡.env wired)
+    (code.calls-s2ix_table_faced::faced_table::FacedTableRangeTable::look_for 𝓡.env wired)
+    (code.calls-s2ix_table_faced::faced_table::FacedTableRangeTable::contents_near 𝓡.env wired) M 𝓤 𝓛 𝓜 𝓡 in
+    let clones = are_cloned.bound 𝓡.env (code.calls-core::clone::Clone+copy::clone 𝓡.env wired) Place given_place_laws given_place_copy M 𝓤 𝓛 𝓜 𝓡 in
     let alloc = y.0.3.0 in let b = y.0.3.1.0 in
     qed 𝓛 ((‵ ftrue ⊛ ‵ (owns (Heap ∷ Boxed ∷ []) (alloc, (b, tt)) y.0.4)) ∷ ‵ ftrue ∷ []) ∵ split ! $ drop ! $ fsplit ! $ heap_is ! alloc y.0.4.0 (λ v e fits. move ! (1 ∷ []) $ fsplit ! $ box_is ! b y.0.4.1.0 (λ w e' fits'.
     regoal ! (λ us. prop (WpFn 𝓤 𝓛.H 𝓣.C 𝓣.Λ code.function (us ++ (y.0.4.1.0 ++ [])) (W.post y))) e refl $
@@ -49,23 +68,30 @@ of_spec {M = M} 𝓤 𝓛 𝓜 𝓡 wired =
     (passed 𝓡.env (code.calls-std::impls::GlobalAllocator::allocate 𝓡.env wired) (code.calls-std::impls::GlobalAllocator::deallocate 𝓡.env wired) (code.calls-std::impls::GlobalAllocator::grow 𝓡.env wired) (code.calls-std::impls::GlobalAllocator::shrink 𝓡.env wired) M 𝓤 𝓛 𝓜 𝓡)
     (glues "s2ix_c_calls::Destruct++none::drop" 𝓡.env (code.calls-s2ix_c_calls::Destruct++none::drop 𝓡.env wired) (Given Heap) (given_laws Heap heap_laws.the_row_laws refl) M 𝓤 𝓛 𝓜 𝓡)
     (drops_store 𝓛 𝓜 𝓡 (code.calls-s2ix_c_calls::s2ix_edit_store++store++Store+Destruct::drop 𝓡.env wired)
-    (is_followed.passed 𝓡.env (code.calls-s2ix_table_faced::faced_table::FacedTableKeptTable::rebuild 𝓡.env wired)
-    (code.calls-s2ix_table_faced::faced_table::FacedTableKeptTable::rebuilt 𝓡.env wired) M 𝓤 𝓛 𝓜 𝓡)
-    (is_asked.passed 𝓡.env (code.calls-s2ix_table_faced::faced_table::FacedTableRangeTable::build 𝓡.env wired)
-    (code.calls-s2ix_table_faced::faced_table::FacedTableRangeTable::range_count 𝓡.env wired)
-    (code.calls-s2ix_table_faced::faced_table::FacedTableRangeTable::range 𝓡.env wired)
-    (code.calls-s2ix_table_faced::faced_table::FacedTableRangeTable::window 𝓡.env wired)
-    (code.calls-s2ix_table_faced::faced_table::FacedTableRangeTable::border 𝓡.env wired)
-    (code.calls-s2ix_table_faced::faced_table::FacedTableRangeTable::border_start 𝓡.env wired)
-    (code.calls-s2ix_table_faced::faced_table::FacedTableRangeTable::stretch 𝓡.env wired)
-    (code.calls-s2ix_table_faced::faced_table::FacedTableRangeTable::first 𝓡.env wired)
-    (code.calls-s2ix_table_faced::faced_table::FacedTableRangeTable::read_near 𝓡.env wired)
-    (code.calls-s2ix_table_faced::faced_table::FacedTableRangeTable::held_at 𝓡.env wired)
-    (code.calls-s2ix_table_faced::faced_table::FacedTableRangeTable::outer 𝓡.env wired)
-    (code.calls-s2ix_table_faced::faced_table::FacedTableRangeTable::find 𝓡.env wired)
-    (code.calls-s2ix_table_faced::faced_table::FacedTableRangeTable::first_over 𝓡.env wired)
-    (code.calls-s2ix_table_faced::faced_table::FacedTableRangeTable::look_for 𝓡.env wired)
-    (code.calls-s2ix_table_faced::faced_table::FacedTableRangeTable::contents_near 𝓡.env wired) M 𝓤 𝓛 𝓜 𝓡)
+    (record { Self-Place-lives = follows.Self-Place-lives; rebuild = follows.rebuild; rebuilt = follows.rebuilt })
+    (record {
+      is_collection = asks.is_collection;
+      is_table = asks.is_table;
+      are_borders = asks.are_borders;
+      within_limit = asks.within_limit;
+      Self-Place-lives = asks.Self-Place-lives;
+      build = asks.build;
+      range_count = asks.range_count;
+      range = asks.range;
+      window = asks.window;
+      border = asks.border;
+      border_start = asks.border_start;
+      stretch = asks.stretch;
+      first = asks.first;
+      read_near = asks.read_near;
+      held_at = asks.held_at;
+      outer = asks.outer;
+      find = asks.find;
+      first_over = asks.first_over;
+      look_for = asks.look_for;
+      contents_near = asks.contents_near;
+    })
+    (record { clone = clones.clone })
     (is_shown.passed 𝓡.env (code.calls-s2ix_table_faced::faced_table::FacedTableDebug::fmt 𝓡.env wired) M 𝓤 𝓛 𝓜 𝓡)
     (drops_table 𝓛 𝓜 𝓡 (code.calls-s2ix_c_calls::s2ix_table_faced++faced_table++FacedTable+Destruct::drop 𝓡.env wired)))) z (and_then ! (get ! refl) (no_more !)) (λ u.
     use1 𝓛 (later (some (λ (at : Ptr). ((‵ (flft (α ∷ []) full_share) ⊛ ‵ (flft (β ∷ []) full_share) ⊛ ‵ ftrue) ⊛ ‵ (RawPtr.own_val at (u ∷ []))) ⊛
