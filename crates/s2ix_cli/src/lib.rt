@@ -7,7 +7,8 @@
 //! program's words; `check_text`, `load_text`, `resume_texts`, `replay_texts`, `rewind_texts` and `diff_texts` work on whole texts.
 //!
 //! ```
-//! let Some(mut store) = load_text(alloc, dump_bytes, limits, &mut sink)? else { return Ok(()) };
+//! let loaded: Option<Store> = load_text(alloc, dump_bytes, limits, &mut sink)?;
+//! let Some(mut store) = loaded else { return Ok(()) };
 //! let options = RunOptions { stop: false, turns: 1_000_000 };
 //! let end: RunEnd = run(alloc, &mut source, &mut sink, &mut store, options)?;
 //! assert!(end.refused <= end.lines);

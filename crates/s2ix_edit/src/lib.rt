@@ -6,7 +6,7 @@
 //! beside it, for queries.
 //!
 //! Bag and table are kept in parts of some hundred pairs. A step makes anew only the parts that it changes, and writes a number or two for
-//! each part of their faces. A copy of a store shares bag and table, until one of the two takes a step: this step then makes lists of its own
+//! each part behind the first one. A copy of a store shares bag and table, until one of the two takes a step: this step then makes lists of its own
 //! of all parts. A store drops no change by itself: when the number of changes that can be undone reaches the limit, edits are refused until
 //! some are undone, joined or forgotten.
 //!

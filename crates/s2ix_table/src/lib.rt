@@ -35,7 +35,8 @@
 //! The crates below this one: `s2ix_table_walk` defines the ranges of a bag and what meets a target, finds it, and counts what it reads;
 //! `s2ix_table_queries` has the trait with its queries; `s2ix_table_spans` builds the shared chains over a span of leaves;
 //! `s2ix_table_heavy` keeps the pairs of heavy cells; `s2ix_table_parts` makes the parts of a face, and what a change makes of them;
-//! `s2ix_table_faced` has `FacedTable`, and the readers of a bag. Here are the tables that take no changes, which no store waits for.
+//! `s2ix_table_kept` says what a store asks of its table, and has the readers of a bag; `s2ix_table_faced` has `FacedTable`. Here are the tables
+//! that take no changes, which no store waits for.
 #![tactic(auto)]
 
 mod chain_table;
@@ -48,8 +49,8 @@ pub mod laws;
 pub use chain_table::ChainTable;
 pub use copied::{CopiedPlace, CopiedTable};
 pub use s2ix_table_faced::{
-    BagReader, FaceHeavyPlace, FacedPlace, FacedTable, PairReader, PartPlace, SharesChains,
-    changed_face_count,
+    BagReader, FaceHeavyPlace, FacedPlace, FacedTable, KeptTable, PairReader, PartPlace,
+    SharesChains, changed_face_count,
 };
 pub use s2ix_table_heavy::HeavyPlace;
 pub use s2ix_table_queries::{
