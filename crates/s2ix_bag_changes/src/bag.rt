@@ -133,9 +133,9 @@ impl Bag {
         self.lists.face_at(k)
     }
 
-    /// The pairs held with a label, with their counts, by rising cell. To go through all of them takes O(p + k) for p parts and the k pairs of
-    /// those parts that the filters of labels don't rule out. Beside the parts that have the label, these are about one in 100 if a part has 64
-    /// labels, one in 7 if it has 256, and half of them if it has 512.
+    /// The pairs held with a label, with their counts, by rising cell. To go through all of them takes O(p + b log b + k) for p parts in b
+    /// bundles of at most 64 parts, and the k pairs of those parts whose filters let the label through. Of the parts that don't have the label,
+    /// these are about one in 100 if a part has 64 labels, one in 7 if it has 256, and half of them if it has 512.
     pub fn of_label(&self, label: Label) -> LabelIter<'_>
         ensures list { result ≡ held_of label self.now.held }
         ensures within { IsBag self.now }
@@ -176,7 +176,8 @@ impl Bag {
     /// The bag that a change makes of this one: each pair of the change has its count after, and no other count differs. Before it
     /// allocates, it tests the three refusals in their order, each over all entries. `OutOfMemory` if a growth is refused, or if a list, a
     /// bundle or a part is shared too often. The parts with entries are copied, and so is a part on either side of one if the two are joined,
-    /// as short ones are; the other parts are shared: O(p + k + m log n) for m entries, n pairs in p parts and the k pairs of the copied parts.
+    /// as short ones are; the other parts are shared: O(p + b log b + k + m log n) for m entries, n pairs in p parts and b bundles, and the k
+    /// pairs of the copied parts.
     pub fn applied(&self, alloc: Global, change: &Change) -> Result<Bag, ApplyError>
         ensures limits { IfOk result (λ bag. bag.limits ≡ self.now.limits) }
         ensures held { IfOk result (λ bag. bag.held ≡ changed self.now.held change.now) }
@@ -216,8 +217,8 @@ impl Bag {
     /// The bag with a change taken back: the difference (the count after less the count before) is subtracted from the count of each of its
     /// pairs, and no other count differs. It refuses what [`Bag::reverting`] refuses, and returns `OutOfMemory` if a growth is refused, or if
     /// a list, a bundle or a part is shared too often. The parts with entries are copied, and so is a part on either side of one if the two are
-    /// joined, as short ones are; the other parts are shared: O(p + k + m log n) for m entries, n pairs in p parts and the k pairs of the
-    /// copied parts.
+    /// joined, as short ones are; the other parts are shared: O(p + b log b + k + m log n) for m entries, n pairs in p parts and b bundles, and
+    /// the k pairs of the copied parts.
     pub fn reverted(&self, alloc: Global, change: &Change) -> Result<Bag, RevertError>
         ensures limits { IfOk result (λ bag. bag.limits ≡ self.now.limits) }
         ensures held { IfOk result (λ bag. bag.held ≡ taken_back self.now.held change.now) }

@@ -7,8 +7,7 @@ use s2ix_bag_pairs::{Held, Label};
 use std::marker::Model;
 
 /// The pairs that a bag holds with one label, with their counts, by rising cell; made by [`Bag::of_label`](crate::Bag::of_label). Contracts
-/// see the list of those still to come. To go through all of them takes O(p + k) for p parts of the bag and the k pairs of those parts that the
-/// filters of labels don't rule out, as `of_label` says.
+/// see the list of those still to come. `of_label` says what it costs to go through all of them.
 #[derive(Clone, Debug, Drop)]
 pub struct LabelIter<'a> {
     label: Label,

@@ -125,7 +125,7 @@ pub(crate) fn cut(
     cut_at(alloc, held, &ends, max_part_len)
 }
 
-// The same where it is known with which pairs a part may end.
+// The same, if it is known with which pairs a part may end.
 fn cut_at(
     alloc: Global,
     held: &[FlatHeld],

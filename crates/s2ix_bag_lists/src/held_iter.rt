@@ -49,8 +49,9 @@ impl<'a> HeldIter<'a> {
         }
     }
 
-    /// The next pair with a label; those before it are passed over. A part is read only if the filter of its labels lets the label through:
-    /// O(p + k) up to the end, for p parts and the k pairs of those that are read.
+    /// The next pair with a label; those before it are passed over. A part is read only if the filter of its labels lets the label through.
+    /// To go through all of them takes O(p + b log b + k): for p parts, whose filters are asked, b bundles, each of which is found by a search,
+    /// and the k pairs of the parts that are read.
     pub fn next_of(&mut self, label: Label) -> Option<Held>
         ensures { YieldsFirst (λ rest. held_of label rest) self.old result self.new }
     {

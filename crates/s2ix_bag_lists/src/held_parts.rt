@@ -205,10 +205,10 @@ impl HeldParts {
     }
 
     /// What a change that has the right counts before makes of the pairs. Without an entry the list is shared. Else the parts with entries are
-    /// copied, and so is a part on either side of one if the two are joined, as short ones are; the other parts are shared. O(p + m log p + k)
-    /// for p parts, m entries and the k pairs of the copied parts. It counts one more owner only of each bundle of parts, and of the parts from
-    /// the first entry's to the last entry's, with those in the same bundles. `OutOfMemory` if a growth is refused, or if the list, a part or a
-    /// bundle is shared too often.
+    /// copied, and so is a part on either side of one if the two are joined, as short ones are; the other parts are shared. For p parts in b
+    /// bundles, m entries and the k pairs of the copied parts it takes O(p + b log b + m log p + k). It counts one more owner only of each bundle
+    /// of parts, and of the parts from the first entry's to the last entry's, with those in the same bundles. `OutOfMemory` if a growth is
+    /// refused, or if the list, a part or a bundle is shared too often.
     pub fn after(&self, alloc: Global, entries: &[Entry]) -> Result<HeldParts, OutOfMemory>
         requires entries_rise { IsChangeList entries.now }
         requires before { AreBefore self.now entries.now }

@@ -202,8 +202,9 @@ impl FaceLists {
     }
 
     /// What a change that has the right counts before makes of the pairs. The parts with entries are copied, and so is a part on either side of
-    /// one if the two are joined, as short ones are; the other parts are shared: O(p + k + m log p) for m entries, the p parts of their faces
-    /// and the k pairs of the copied parts. `OutOfMemory` if a growth is refused, or if a list, a bundle or a part is shared too often.
+    /// one if the two are joined, as short ones are; the other parts are shared: O(p + b log b + k + m log p) for m entries, the p parts and b
+    /// bundles of their faces, and the k pairs of the copied parts. `OutOfMemory` if a growth is refused, or if a list, a bundle or a part is
+    /// shared too often.
     pub fn after(&self, alloc: Global, entries: &[Entry]) -> Result<FaceLists, OutOfMemory>
         requires entries_rise { IsChangeList entries.now }
         requires before { AreBefore self.now entries.now }

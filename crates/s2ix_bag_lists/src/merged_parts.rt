@@ -120,8 +120,8 @@ fn add_changed(
 }
 
 /// The parts once a change is applied that has the right counts before. Those with entries are copied, and so is one on either side of them if
-/// the two are joined, as `is_joined` says; the others are shared. O(w + m log w + k) for w parts, m entries and the k pairs of the copied
-/// parts. `OutOfMemory` if a growth is refused, or if a part is shared too often.
+/// the two are joined, as `is_joined` says; the others are shared. O(w + (v + m) log p + k) for w parts in v bundles, of a list that has p parts,
+/// m entries and the k pairs of the copied parts. `OutOfMemory` if a growth is refused, or if a part is shared too often.
 pub(crate) fn merged_parts(
     alloc: Global,
     parts: ListsView<'_>,

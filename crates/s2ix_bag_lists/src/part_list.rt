@@ -172,7 +172,7 @@ impl PartList {
         (self.starts[part], self.parts.at(part))
     }
 
-    // O(log n) for n pairs.
+    // O(log n) for n pairs: a search among the bundles, one among the parts of a bundle, and one in a part.
     pub(crate) fn count(&self, pair: Pair) -> u32
         ensures { result ≡ count_in self.now pair }
     {
@@ -181,9 +181,10 @@ impl PartList {
         count_of(parts.at(part).as_slice(), pair)
     }
 
-    // What a change that has the right counts before makes of the pairs; `None` if no pair is left. Parts that are not near its entries are
-    // shared by bundles: O(b + w + m + k) for b bundles, w parts from the first entry's to the last entry's, m entries and the k pairs of their
-    // parts, and O(p) to write p numbers. `OutOfMemory` if a growth is refused, or if a part or a bundle is shared too often.
+    // What a change that has the right counts before makes of the pairs; `None` if no pair is left. Bundles without a part near its entries are
+    // shared as one. O(b + w + (v + m) log p + k) for b bundles, the w parts from the first entry's to the last entry's and their v bundles, m
+    // entries and the k pairs of the copied parts; and O(p) to write a number for each of the p parts. `OutOfMemory` if a growth is refused, or
+    // if a part or a bundle is shared too often.
     pub(crate) fn after(
         &self,
         alloc: Global,

@@ -58,7 +58,7 @@ pub fn count_of(held: &[FlatHeld], pair: Pair) -> u32
     count_first(rest, pair)
 }
 
-// The held pairs past `pair`, where that stands first.
+// The held pairs without `pair`, if that is the first of them; else all of them.
 pub(crate) fn past_pair(held: &[FlatHeld], pair: Pair) -> &[FlatHeld]
     ensures { result.now ≡ past held.now (rank_of pair) }
 {

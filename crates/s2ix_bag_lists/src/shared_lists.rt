@@ -77,8 +77,8 @@ fn between(
     Ok(all)
 }
 
-// How many of the lists that are left the next bundle takes: all if they fit into one, else half of them, but at most three quarters of the
-// most, which leaves room to grow.
+// How many lists the next bundle takes if `len` are left: all of them if they fit into one bundle; else half of them, but at most three quarters
+// of what a bundle may have, so that it has room to grow.
 fn bundle_len(len: usize) -> usize
     requires { 0 < len }
     ensures some { 0 < result }

@@ -54,8 +54,8 @@ impl<T: KeptTable> SharedTable<T> {
     }
 
     // Makes this the table after a change: `bag` reads the pairs that the change has made. If no other store shares the table, it is changed
-    // in place. Otherwise it stays for the others, and a new one is made beside it, which shares the parts that stay. If a growth is refused,
-    // the table stays.
+    // in place, at the cost of its `rebuild`. Otherwise it stays for the others, and a new one is made beside it, at the cost of `rebuilt`: for
+    // a `FacedTable` of p parts O(p) more, since the new table shares the parts that stay. With `OutOfMemory` the table stays.
     pub(crate) fn rebuild<B: PairReader>(
         &mut self,
         alloc: Global,

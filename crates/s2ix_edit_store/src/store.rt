@@ -90,8 +90,8 @@ impl<T: KeptTable> Store<T> {
         Store::from_bag(alloc, Bag::empty(alloc, limits))
     }
 
-    /// A store that starts from its bag, with the bag's limits and nothing to undo or redo. `OutOfMemory` if a growth of its table is
-    /// refused; then the bag is dropped. O(n) for n pairs.
+    /// A store that starts from its bag, with the bag's limits and nothing to undo or redo. `OutOfMemory` if a growth of its table is refused;
+    /// then the bag is dropped. It costs what the table's `build` does: a `FacedTable` of n pairs takes O(n), or O(n log n) if cells are heavy.
     pub fn from_bag(alloc: Global, bag: Bag) -> Result<Store<T>, OutOfMemory>
         ensures state { IfOk result (λ store. store ≡ starting_at bag) }
         ensures history { IfOk result (λ store. history_of store ≡ alone bag.held) }
@@ -103,8 +103,9 @@ impl<T: KeptTable> Store<T> {
     /// A store that goes on from a history: it starts from its bag, with the bag's limits, and `changes`, the oldest first, can be undone as if
     /// it had done them. The last of them led to the bag. Nothing can be redone. So a store comes back from its bag and what
     /// [`done`](Store::done) gives. [`HistoryError`] says when the changes are refused: they are tested from the last on, as
-    /// [`rewind`](s2ix_bag::rewind) does. `OutOfMemory` if a growth is refused; it comes in place of no refusal but that of a change before
-    /// the last. After a refusal bag and changes are dropped. O(n + m log n) for n pairs and m entries in all changes. This project's own.
+    /// [`rewind`](s2ix_bag::rewind) does. `OutOfMemory` if a growth is refused; it comes in place of no refusal but that of a change before the
+    /// last. After a refusal bag and changes are dropped. O(n + m log n) for n pairs and m entries in all changes, besides what the table takes,
+    /// as for [`from_bag`](Store::from_bag). This project's own.
     pub fn with_history(
         alloc: Global,
         bag: Bag,
@@ -145,8 +146,9 @@ impl<T: KeptTable> Store<T> {
     }
 
     /// A store that starts from this one's collection, with the same limits and nothing to undo or redo. The two share pairs and table, and each
-    /// is edited by itself, on whatever thread. It does not allocate. O(1); the first step of one of them then costs O(p) more for p parts,
-    /// since it makes a table of its own, which shares the parts that stay. `OutOfMemory` if pairs or table are shared too often.
+    /// is edited by itself, on any thread. It does not allocate. O(1). The first of the two to take a step then makes a table of its own by
+    /// [`KeptTable::rebuilt`], and leaves the shared one to the other store. A `FacedTable` of p parts takes O(p) more for that than for a change
+    /// in place, since the two tables share the parts that stay. `OutOfMemory` if pairs or table are shared too often.
     pub fn copied(&self) -> Result<Store<T>, OutOfMemory>
         ensures state { IfOk result (λ store. store ≡ starting_at self.now.bag) }
         ensures history { IfOk result (λ store. history_of store ≡ alone self.now.bag.held) }
@@ -156,12 +158,12 @@ impl<T: KeptTable> Store<T> {
         Ok(Store::starting(self.alloc, bag, table))
     }
 
-    /// Carries an edit out, and returns how many pairs changed their counts. An accepted edit records the change at the end of `done` and
-    /// empties `undone`; a refused one changes nothing. [`EditError`] says when each refusal is due. If the journal has room, an `Add` or a
-    /// `Remove` of no copies, or an `AddUnion` of no cells, is `NoChange` and does not allocate. It costs what [`plan`] does, the
-    /// freeing of the undone changes, and O(m log n + q + k) for a change of m entries, if the n pairs that are held are kept in q parts, and
-    /// k of them in the parts that cells of these entries touch: only those parts are made anew. Besides the plan, the new bag, its table and
-    /// the slot in `done` want memory.
+    /// Carries an edit out, and returns how many pairs changed their counts. An accepted edit records the change at the end of `done` and empties
+    /// `undone`; a refused one changes nothing. [`EditError`] says when each refusal is due. If the journal has room, an `Add` or a `Remove` of
+    /// no copies, or an `AddUnion` of no cells, is `NoChange` and does not allocate. It costs what [`plan`] does, the freeing of the undone
+    /// changes, what [`Bag::applied`] takes to make the new bag, and what the table takes to follow the change by [`KeptTable::rebuild`]: a
+    /// `FacedTable` makes anew only the parts and the chunks that cells of the entries touch. Besides the plan, the new bag, its table and the
+    /// slot in `done` want memory.
     pub fn edit(&mut self, edit: &Edit) -> Result<usize, EditError>
         ensures state { OnOk result (self.new ≡ after_edit self.old edit.now) }
         ensures history { OnOk result (history_of self.new
@@ -415,10 +417,10 @@ impl<T: KeptTable> Store<T> {
     }
 
     /// Does changes in their order, as [`replay`](s2ix_bag::replay) does: what another store did, from an equal bag on. Each can be undone by
-    /// itself, and what could be redone is gone. Returns how many pairs have another count than before. If there are no changes, nothing
-    /// happens. [`HistoryError`] says when they are refused; then nothing changes, and they are dropped. `OutOfMemory` if a growth is
-    /// refused; it comes in place of no refusal but that of a change after the first. It costs O(m log n + q + k) for m entries in all
-    /// changes, with q and k as for [`edit`](Store::edit): one change costs about what [`record`](Store::record) does. This project's own.
+    /// itself, and what could be redone is gone. Returns how many pairs have another count than before. If there are no changes, nothing happens.
+    /// [`HistoryError`] says when they are refused; then nothing changes, and they are dropped. `OutOfMemory` if a growth is refused; it comes in
+    /// place of no refusal but that of a change after the first. It costs about what [`record`](Store::record) does for one change with the
+    /// entries of all of them, since the table follows them as one change. This project's own.
     pub fn apply(&mut self, changes: Vec<Change>) -> Result<usize, HistoryError>
         ensures state { OnOk result (self.new ≡ after_apply self.old changes.items) }
         ensures history { OnOk result (history_of self.new ≡ with_changes changes.items (history_of self.old)) }

@@ -269,14 +269,14 @@ impl FacedTable {
         Ok(table)
     }
 
-    /// Makes this table that of its pairs after a change: `bag` reads the pairs that the change has made of them. The parts that an entry's
-    /// cell touches are made anew or, if the cell is heavy, the chunk that has the entry's pair; the others stay. With q pairs on the f
-    /// faces on which the change has entries and n in all it reads q to q + 2 * f * digits(n + 1) pairs, for the binary digits of n + 1: a
-    /// whole face at once, which a bag hands on as it is. Besides, it takes O(p + m + k) for m entries and the k pairs of what is made
-    /// anew, and O((p + m) log c + c) more under c chunks; but if all entries fall into one chunk, which keeps a pair and doesn't get too
-    /// long, it takes O(log c + m + k), and O(c) more if a copy shares the heavy pairs. A face of q pairs that is laid in layers anew takes
-    /// O(q log q). `OutOfMemory` if a growth is refused, or what stays is shared too often: then the table shows the same pairs, ranges and
-    /// borders, with each pair at its place, and it has read at most so many.
+    /// Makes this table that of its pairs after a change: `bag` reads the pairs that the change has made of them. The parts that an entry's cell
+    /// touches are made anew or, if the cell is heavy, the chunk that has the entry's pair; the others stay. With q pairs on the f faces on which
+    /// the change has entries and n in all it reads q to q + 2 * f * digits(n + 1) pairs, for the binary digits of n + 1: a whole face at once,
+    /// which a bag hands on as it is. Besides, it takes O(p + m log p + k) for m entries and the k pairs of what is made anew; O(log b) more for
+    /// each part between the entries, if the bag's parts lie in b bundles; and O((p + m) log c + c) more under c chunks. But if all entries fall
+    /// into one chunk, which keeps a pair and doesn't get too long, it takes O(log c + m + k), and O(c) more if a copy shares the heavy pairs. A
+    /// face of q pairs that is laid in layers anew takes O(q log q). `OutOfMemory` if a growth is refused, or what stays is shared too often:
+    /// then the table shows the same pairs, ranges and borders, with each pair at its place, and it has read at most so many.
     pub fn rebuild<B: PairReader>(
         &mut self,
         alloc: Global,
@@ -302,7 +302,7 @@ impl FacedTable {
     }
 
     // Makes a change of the faces: for each face on which it has an entry, `lists` has the pairs that are there then. `OutOfMemory` if a
-    // growth is refused, or a part is shared too often: then the table stays as it is.
+    // growth is refused, or a part, a list or a chunk is shared too often: then the table stays as it is.
     fn change_faces(
         &mut self,
         alloc: Global,

@@ -17,13 +17,15 @@ use s2id_core::CellId;
 use s2ix_table_queries::{BATCH, Bookmark, LeafContents, RangeTable};
 use s2ix_table_spans::{SpanTable, is_last_start, step_ahead};
 
-// The lists of more parts than this are out of the processor's cache.
+// In a table of more parts than this a leaf is found in its part by halving (`find_far`): the lists of so many parts aren't in the processor's
+// cache.
 const MANY_PARTS: usize = 512;
 
-// The lists of more parts than this are out of the cache that is nearest to one core.
+// In a table of more parts than this a look for many leaves at once also reads the first pair over each of them (`keep_fitting`): these pairs
+// aren't in the cache that is nearest to a core.
 const FAR_PARTS: usize = 128;
 
-// How many neighbouring parts are a few.
+// Leaves that rise, and lie in at most so many neighbouring parts, are looked for one after the other (`rise_closely`).
 const NEAR_PARTS: usize = 8;
 
 impl FacedTable {

@@ -5,7 +5,7 @@ use s2id_core::FACES;
 use s2ix_bag_changes::Change;
 use s2ix_bag_pairs::Entry;
 
-// For each face, 0 to 5, whether there is an entry on it.
+// For each face, 0 to 5, whether there is an entry on it. (In clauses `faces_of` is how many such faces there are.)
 fn faces_of(entries: &[Entry]) -> [bool; FACES]
     ensures { result ≡ map (has_entry_on entries.now) faces }
 {

@@ -14,7 +14,9 @@ use s2ix_table_walk::{Cost, LeafWindow, RangeRow, Reader, SAMPLE_STEP};
 pub struct Meter<'a, T: RangeTable> {
     table: &'a T,
     cost: Cost,
+    // the stretch of the part at hand
     near: Stretch<'a>,
+    // where the table was read last
     last: Bookmark,
     pub ghost near_is: { IsStretch (T.ranges table.now) near.first near.count near.starts.now },
     pub ghost sample_is: { IsSample near.count near.starts.now near.sample.now },

@@ -12,9 +12,9 @@ use s2id_core::CellId;
 use s2id_union::CellUnion;
 use s2ix_bag_pairs::Held;
 
-/// An iterator over the meeting list of a target. It reads on only when the next pair is asked for. Every call that asks what meets a union
-/// uses it, over every kind of table. It does not allocate. All k pairs take O(k + r + t log n), if the t cells of the target meet r of the
-/// n ranges.
+/// An iterator over the meeting list of a target: the held pairs whose cells share a leaf with the target, each once. When the next pair is
+/// asked for, it reads the table on as far as that pair, and no farther. Over every kind of table, what meets a union is found by it. It does not
+/// allocate. To go through all k pairs takes O(k + r + t log n), if the target has t cells, and these meet r of the table's n ranges.
 pub struct Meeting<'a, R: Reader> {
     reader: &'a mut R,
     cells: &'a [CellId],

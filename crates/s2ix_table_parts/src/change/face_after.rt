@@ -35,7 +35,7 @@ impl Face<'_> {
     /// four ways the first that serves is taken:
     ///
     /// 1. There are no heavy pairs: the parts that an entry touches are made anew, over lists that `held` shares. This doesn't serve if one
-    ///    of them becomes large.
+    ///    of them becomes large: if it gets more than twice as many pairs as a part should have.
     /// 2. No entry's cell has heavy pairs: the parts from the first to the last one that an entry touches are made anew, and the heavy pairs
     ///    stay. This doesn't serve if a part becomes large, or a light cell lies under some heavy pairs at only some of its leaves.
     /// 3. Some entries have cells with heavy pairs, or cells that go over several parts: the pairs of these cells go into chunks. Only the
@@ -44,8 +44,9 @@ impl Face<'_> {
     ///
     /// The first two are left out if an entry's cell goes over parts with many pairs, since they would do their work in vain.
     ///
-    /// O(p log c + c + m * (log c + log p) + k) for p parts, c chunks, m entries and the k pairs of what is made anew; in the fourth way
-    /// O(n log n) more for the n pairs of the face. `OutOfMemory` if a growth is refused, or a part, a list or a chunk is shared too often.
+    /// O(p log c + c + m * (log c + log p) + k) for p parts, c chunks, m entries and the k pairs of what is made anew. In the first way each part
+    /// between the entries takes O(log b) more, since the lists of `held` lie in b bundles; in the fourth the n pairs of the face take O(n log n)
+    /// more. `OutOfMemory` if a growth is refused, or a part, a list or a chunk is shared too often.
     pub fn after(
         self,
         alloc: Global,

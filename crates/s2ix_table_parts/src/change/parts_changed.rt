@@ -53,8 +53,8 @@ pub fn changed_tables(
     changed_parts(alloc, parts.as_slice(), held, entries, from, to)
 }
 
-// The same, of parts as a table keeps them, without heavy pairs. O(log p + q + m + k) if q of the parts lie from the first entry to the last
-// one.
+// The same, of parts as a table keeps them, without heavy pairs. O(log p + q + m + k) if q of the p parts lie from the first entry to the last
+// one, and O(log b) more for each look at a list, since lists lie in b bundles: at O(log p + q) of them.
 pub(crate) fn changed_parts(
     alloc: Global,
     before: &[Part],
@@ -403,7 +403,7 @@ pub(crate) fn last_by(parts: &[Part], leaf: u64) -> usize
 }
 
 // How many lists have only cells with numbers below a seam. It looks first at the place `near`, and then farther and farther away: at O(log d)
-// lists, if the answer is d lists away from there. Any place is accepted.
+// lists, if the answer is d lists away from there, each found among b bundles in O(log b). Any place is accepted.
 fn lists_below(lists: ListsView<'_>, seam: u64, near: usize) -> usize
     ensures { result ≤ length (lists_in lists.entry) }
 {
