@@ -286,7 +286,7 @@ world.
 One call asks for a million points, which lie in zones too. The labels over them go into one list, point by point, and where the labels of each
 point end into another.
 
-- *Unsorted*: `at_each`, beside a `RangeIterator` that seeks each point, and a `ContentsIterator`.
+- *Unsorted*: `at_many`, beside a `RangeIterator` that seeks each point, and a `ContentsIterator`.
 - *Rising*: the same over points that were sorted before. S2's iterators are kept, and seek only if a point lies behind the next range.
 - *From C*: `s2ix_labels_at_each` over the unsorted points, into lists that have room for all.
 - *From Python*: `Index.labels_at_each` over them, by Debian's Python {python} with NumPy {numpy}. It returns new lists.

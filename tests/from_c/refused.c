@@ -44,6 +44,12 @@ static const uint64_t wrong_cells[] = {0x0c00000000000000, 0x0400000000000000, 0
 static const uint64_t leaves[] = {0x0800000000000001, 0x3000000000000001, 0x0400000000000001};
 static const uint64_t targets[] = {0x0c00000000000000, 0x0400000000000000, 0x1000000000000000};
 static const size_t bounds[] = {0, 2, 2, 3};
+/* So many leaves, in no order, that they are put in order if there is memory for it. */
+enum { UNSORTED = 5000 };
+static uint64_t unsorted[UNSORTED];
+static size_t unsorted_ends[UNSORTED];
+static uint32_t unsorted_labels[2 * UNSORTED];
+static s2ix_row unsorted_rows[2 * UNSORTED];
 
 /* What a call told: its number, and what it put. */
 typedef struct told {
@@ -245,6 +251,18 @@ CALL(ranges) {
 CALL(at) { return (void)other, s2ix_at(handle, leaf, ROWS, &told->number); }
 CALL(at_each) { return (void)other, s2ix_at_each(handle, leaves, 3, ends, 3, ROWS, &told->number); }
 CALL(labels_at_each) { return (void)other, s2ix_labels_at_each(handle, leaves, 3, ends, 3, LABELS, &told->number); }
+/* (what it tells of the labels is a sum in which each has its place) */
+CALL(labels_at_unsorted) {
+    const uint32_t status = s2ix_labels_at_each(handle, unsorted, UNSORTED, unsorted_ends, UNSORTED, unsorted_labels, 2 * UNSORTED, &told->number);
+    for (size_t k = 0; k < UNSORTED; k++) told->cells[0] = told->cells[0] * 31 + unsorted_ends[k];
+    for (size_t k = 0; k < unsorted_ends[UNSORTED - 1]; k++) told->cells[1] = told->cells[1] * 31 + unsorted_labels[k];
+    return (void)other, status;
+}
+CALL(at_unsorted) {
+    const uint32_t status = s2ix_at_each(handle, unsorted, UNSORTED, unsorted_ends, UNSORTED, unsorted_rows, 2 * UNSORTED, &told->number);
+    for (size_t k = 0; k < unsorted_ends[UNSORTED - 1]; k++) told->cells[0] = told->cells[0] * 31 + unsorted_rows[k].label;
+    return (void)other, status;
+}
 CALL(pairs) { return (void)other, s2ix_pairs(handle, 0, ROWS, &told->number); }
 CALL(change) { return (void)other, s2ix_change(handle, 1, ENTRIES, &told->number); }
 CALL(range) {
@@ -397,6 +415,8 @@ static const struct {
     {"meet_each of cells that follow one another", meets_each_following, false},
     {"meet of 1,024 leaves", meets_many, false},
     {"meet of 1,025 leaves", meets_more, true},
+    {"labels_at_each of 5,000 leaves", labels_at_unsorted, true},
+    {"at_each of 5,000 leaves", at_unsorted, true},
     {"ranges", ranges, false},
     {"at", at, false},
     {"at_each", at_each, false},
@@ -525,6 +545,7 @@ static long growths_of(call *call, bool is_empty) {
 int main(void) {
     int refused = 0;
     for (size_t k = 0; k < MANY + 1; k++) rising[k] = leaf + 2 * k;
+    for (size_t k = 0; k < UNSORTED; k++) unsorted[k] = leaf + 2 * (k * 7919 % 100003);
     expect("meet", 0, "pairs that are met want memory", growths_of(meets, false) == growths_of(meets, true));
     expect("meet_from", 0, "pairs that are met want memory", growths_of(meets_from, false) == growths_of(meets_from, true));
     for (size_t k = 0; k < sizeof calls / sizeof *calls; k++) {

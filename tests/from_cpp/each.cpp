@@ -291,6 +291,8 @@ int main() {
 #endif
     }
   }
+  // (so many leaves are put in order)
+  BesideSingleCalls(chance, 400, 9000);
   WithManyPairs();
   InEachForm();
   Refused();

@@ -13,7 +13,8 @@ use crate::handles::with_store;
 use s2ix_c_calls::{Handle, Row, calls};
 use std::alloc::Global;
 
-/// The pairs over each of some leaves: those that `s2ix_at` puts for the first one, then for the next, and so on. It does not allocate.
+/// The pairs over each of some leaves: those that `s2ix_at` puts for the first one, then for the next, and so on. If there are thousands of
+/// leaves it is quicker if it gets memory, and is never refused for want of it.
 #[unsafe(no_mangle)]
 pub extern "C" fn s2ix_at_each(
     alloc: Global,
@@ -31,11 +32,11 @@ pub extern "C" fn s2ix_at_each(
     with_store!(
         alloc,
         handle,
-        |store| calls::at_each(&store, leaves, ends, rows, answered)
+        |store| calls::at_each(alloc, &store, leaves, ends, rows, answered)
     )
 }
 
-/// The labels of the pairs that `s2ix_at_each` puts. It does not allocate.
+/// The labels of the pairs that `s2ix_at_each` puts.
 #[unsafe(no_mangle)]
 pub extern "C" fn s2ix_labels_at_each(
     alloc: Global,
@@ -53,7 +54,7 @@ pub extern "C" fn s2ix_labels_at_each(
     with_store!(
         alloc,
         handle,
-        |store| calls::at_each(&store, leaves, ends, labels, answered)
+        |store| calls::at_each(alloc, &store, leaves, ends, labels, answered)
     )
 }
 

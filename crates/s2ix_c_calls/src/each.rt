@@ -8,12 +8,14 @@ use crate::rows::Row;
 use crate::status::{DONE, NO_CELL, NO_ROOM, NO_SPAN};
 use crate::unions::check_cells;
 use s2ix_edit::Store;
-use s2ix_table_queries::{EachStop, OfHeld};
+use s2ix_table_queries::{EachStop, OfHeld, at_many};
 use std::alloc::Global;
 
 /// What lies over each of some leaves: what `at` puts for the first one, then for the next, and so on; of each pair all, or its
-/// label. `answered` is how many leaves are answered, from the first one on, and the status says why the next one is not. It does not allocate.
+/// label. `answered` is how many leaves are answered, from the first one on, and the status says why the next one is not. If there are
+/// thousands of them, it is quicker if it gets memory to put them in order, and is never refused for want of it.
 pub fn at_each<R: OfHeld>(
+    alloc: Global,
     store: &Store,
     leaves: &[u64],
     ends: &mut [usize],
@@ -22,7 +24,7 @@ pub fn at_each<R: OfHeld>(
 ) -> u32
     ensures { AnswersLeaves R.of store.now.bag.held leaves.now result answered.new ends.old ends.new out.old out.new }
 {
-    let each = s2ix_table_queries::at_each(store.table(), leaves, ends, out);
+    let each = at_many(alloc, store.table(), leaves, ends, out);
     *answered = each.answered;
     match each.stop {
         EachStop::All => DONE,

@@ -22,6 +22,7 @@
 //! | Which labels meet it? | [`RangeTable::labels`] | the same, and the sorting of the labels |
 //! | Which pairs lie over a leaf? | [`chain_at`] | O(log n + k) |
 //! | Which pairs lie over each of many leaves? | [`at_each`] | the same for each, and less for many, most of all if they rise |
+//! | And over each of thousands, in no order? | [`at_many`], which puts them in order first | the same, and memory for that, if it gets it |
 //! | Which range has a leaf? | [`RangeTable::find`], [`RangeIter::seek`] | O(log n) |
 //! | What lies over each range? | [`ranges`], [`contents`] | O(1) a step, but O(log p) for `contents` in a table of p parts |
 //! | What did a query read? | a [`Cost`], from `visit_counted`, or from a [`Meter`] after a [`walk`] | as `visit` |
@@ -55,7 +56,7 @@ pub use s2ix_table_faced::{
 pub use s2ix_table_heavy::HeavyPlace;
 pub use s2ix_table_queries::{
     BATCH, Bookmark, ChainIter, Each, EachStop, LeafContents, Meter, OfHeld, RangeIter, RangeTable,
-    Stretch, Visit, at_each, cell_of, chain_at, contents, leaf_of, ranges,
+    Stretch, Visit, at_each, at_many, cell_of, chain_at, contents, leaf_of, ranges,
 };
 pub use s2ix_table_spans::SpanTable;
 pub use s2ix_table_walk::{Cost, LeafWindow, Meeting, RangeRow, Reader, Window, walk};

@@ -4,5 +4,6 @@ pub mod Stretching
 pub mod Numbers
 pub mod LeafByLeaf
 pub mod Again
+pub mod Segments
 pub mod Linking
 pub mod Marking

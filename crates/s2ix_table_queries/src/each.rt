@@ -187,9 +187,9 @@ fn batch_at(numbers: &[u64], from: usize) -> Option<Batch>
 
 // How many leaves are answered, and how many pairs are put for these.
 #[derive(Clone, Copy)]
-struct Done {
-    leaves: usize,
-    pairs: usize,
+pub(crate) struct Done {
+    pub(crate) leaves: usize,
+    pub(crate) pairs: usize,
 }
 
 // Answers the leaves from one on that lie in the span of contents, as `put_same` says. It is not inlined, so that the loop has the
@@ -323,17 +323,17 @@ fn put_batch<T: RangeTable, R: OfHeld>(
     done
 }
 
-/// Puts what lies over each of some leaves into `out`: what [`chain_at`](crate::chain_at) gives for the first leaf, then for the next, and so
-/// on. `ends[k]` gets how many pairs are put for `leaves[k]` and all leaves before it. The leaves are given by their numbers, in any order,
-/// repeated or not. It answers leaves up to the first number that is no leaf's, or as many as both buffers have room for; past the answers
-/// both buffers may be overwritten. It does not allocate. O(log n + k) for each leaf with k pairs over it, and O(log n) for each of at most
-/// 63 more that it looks for before room ends; leaves that rise are quickest.
-pub fn at_each<T: RangeTable, R: OfHeld>(
+// Answers the leaves from one on, as `at_each` says.
+pub(crate) fn answer_from<T: RangeTable, R: OfHeld>(
     table: &T,
     leaves: &[u64],
+    before: Done,
     ends: &mut [usize],
     out: &mut [R],
 ) -> Each
+    requires before { AreAnswered R.of (T.pairs table.now) leaves.now before.leaves ends.old out.old }
+    requires count { before.pairs ≡ length (over_first before.leaves leaves.now (T.pairs table.now)) }
+    requires room { before.pairs ≤ length out.old }
     ensures answered { AreAnswered R.of (T.pairs table.now) leaves.now result.answered ends.new out.new }
     ensures all { result.stop ≡ EachStop.All → result.answered ≡ length leaves.now }
     ensures no_leaf { result.stop ≡ EachStop.NoLeaf → IsNoLeaf leaves.now result.answered }
@@ -342,10 +342,7 @@ pub fn at_each<T: RangeTable, R: OfHeld>(
     ensures out { length out.new ≡ length out.old }
 {
     let mut last = Bookmark::none();
-    let mut done = Done {
-        leaves: 0,
-        pairs: 0,
-    };
+    let mut done = before;
     while done.leaves < leaves.len() {
         let Some(batch) = batch_at(leaves, done.leaves) else {
             return Each {
@@ -366,4 +363,29 @@ pub fn at_each<T: RangeTable, R: OfHeld>(
         answered: done.leaves,
         stop: EachStop::All,
     }
+}
+
+/// Puts what lies over each of some leaves into `out`: what [`chain_at`](crate::chain_at) gives for the first leaf, then for the next, and so
+/// on. `ends[k]` gets how many pairs are put for `leaves[k]` and all leaves before it. The leaves are given by their numbers, in any order,
+/// repeated or not. It answers leaves up to the first number that is no leaf's, or as many as both buffers have room for; past the answers
+/// both buffers may be overwritten. It does not allocate. O(log n + k) for each leaf with k pairs over it, and O(log n) for each of at most
+/// 63 more that it looks for before room ends; leaves that rise are quickest.
+pub fn at_each<T: RangeTable, R: OfHeld>(
+    table: &T,
+    leaves: &[u64],
+    ends: &mut [usize],
+    out: &mut [R],
+) -> Each
+    ensures answered { AreAnswered R.of (T.pairs table.now) leaves.now result.answered ends.new out.new }
+    ensures all { result.stop ≡ EachStop.All → result.answered ≡ length leaves.now }
+    ensures no_leaf { result.stop ≡ EachStop.NoLeaf → IsNoLeaf leaves.now result.answered }
+    ensures no_room { result.stop ≡ EachStop.NoRoom → LacksRoom (T.pairs table.now) leaves.now result.answered ends.old out.old }
+    ensures ends { length ends.new ≡ length ends.old }
+    ensures out { length out.new ≡ length out.old }
+{
+    let none = Done {
+        leaves: 0,
+        pairs: 0,
+    };
+    answer_from(table, leaves, none, ends, out)
 }

@@ -1,7 +1,8 @@
 //! The trait of range tables, and what is asked of any of them: what meets a union, what lies over a leaf, and range by range.
 //!
 //! A [`RangeTable`] keeps the ranges of a bag in order, and a chain of pairs for each. What meets a union is found by the `Meeting` of
-//! `s2ix_table_walk`, through a [`Meter`], which counts what is read; `find`, [`chain_at`], [`at_each`] and [`ranges`] read the table itself.
+//! `s2ix_table_walk`, through a [`Meter`], which counts what is read; `find`, [`chain_at`], [`at_each`], [`at_many`] and [`ranges`] read the
+//! table itself.
 #![tactic(auto)]
 
 mod bookmark;
@@ -11,6 +12,8 @@ mod labels;
 pub mod laws;
 mod leaf;
 mod leaf_contents;
+mod leaf_order;
+mod many;
 mod marks;
 mod meter;
 mod of_held;
@@ -24,6 +27,7 @@ pub use each::{Each, EachStop, at_each};
 pub use iter::{ChainIter, RangeIter, chain_at, contents, ranges};
 pub use leaf::{cell_of, leaf_of};
 pub use leaf_contents::LeafContents;
+pub use many::at_many;
 pub use meter::Meter;
 pub use of_held::OfHeld;
 pub use stretch::Stretch;

@@ -1,7 +1,7 @@
 -- The leaves that were passed are answered.
 use Rattle.std.proofs.Common.{◌≡◌, ◌≤◌, ◌-◌, length}
 use Rattle.s2ix_table_queries.specs.ManyLeaves.{AreAnswered, over_first}
-use Rattle.s2ix_table_queries.proofs.each.at_each.Given as goal
+use Rattle.s2ix_table_queries.proofs.each.answer_from.Given as goal
 
 abbrev pub invariant-loop-done : goal.invariant-loop-done
 invariant-loop-done g l =
