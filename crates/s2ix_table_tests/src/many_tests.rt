@@ -4,6 +4,7 @@ use s2id_union::CellUnion;
 use s2ix_bag::{Bag, Change, Entry, Held, Label, Limits, Pair};
 use s2ix_table::{
     BagReader, Bookmark, ChainTable, Each, EachStop, FacedTable, PairReader, RangeTable, at_each,
+    at_many,
 };
 use std::alloc::Global;
 
@@ -149,6 +150,39 @@ fn rising_leaves_are_answered_at_once(rt: HostRuntime) {
     let bag = wide_bag(rt.alloc()).expect(&rt, "a bag");
     assert!(rt; answers_rising::<FacedTable>(rt.alloc(), &bag) == Some(true));
     assert!(rt; answers_rising::<ChainTable>(rt.alloc(), &bag) == Some(true));
+}
+
+// Whether leaves in no order get the same answers from `at_many` as from `at_each`, if there is room for so many labels. The one at the place
+// `wrong` is no leaf's number.
+fn many_are_answered_alike(alloc: Global, bag: &Bag, wrong: u64, room: usize) -> Option<bool> {
+    let table = FacedTable::build(alloc, bag).ok()?;
+    let mut leaves = Vec::new(alloc);
+    for k in 0..9_000u64 {
+        let leaf = cell_at(k * 7_919 % 20_000)?.span_start();
+        leaves.push(if k == wrong { 2 } else { leaf }).ok()?;
+    }
+    let mut ends = Vec::from_elem(alloc, 0usize, 9_000).ok()?;
+    let mut labels = Vec::from_elem(alloc, 0u32, room).ok()?;
+    let each = at_each(&table, &leaves, &mut ends, &mut labels);
+    let mut many_ends = Vec::from_elem(alloc, 0usize, 9_000).ok()?;
+    let mut many_labels = Vec::from_elem(alloc, 0u32, room).ok()?;
+    let many = at_many(alloc, &table, &leaves, &mut many_ends, &mut many_labels);
+    let ends = ends.get(..each.answered)?;
+    let end = ends.last().copied().unwrap_or(0);
+    let are_alike = many_ends.get(..each.answered)? == ends
+        && many_labels.get(..end)? == labels.get(..end)?;
+    Some(many == each && are_alike)
+}
+
+#[test]
+fn many_leaves_in_no_order_are_answered(rt: HostRuntime) {
+    let bag = bag_under_a_face(rt.alloc()).expect(&rt, "a bag");
+    for wrong in [5, 4_999, 8_999, 9_000] {
+        assert!(rt; many_are_answered_alike(rt.alloc(), &bag, wrong, 18_000) == Some(true));
+    }
+    for room in [0, 1, 5_000, 17_999] {
+        assert!(rt; many_are_answered_alike(rt.alloc(), &bag, 9_000, room) == Some(true));
+    }
 }
 
 // Whether a table answers as many of eight leaves as there is room for ends: room for fewer than eight.
