@@ -2,13 +2,14 @@
 use Rattle.std.proofs.Common.{◌≡◌, ◌≢◌, inl, inr, ◌<◌, ◌≤◌, ◌+◌, ◌-◌, ◌∙◌, ℕ, List, [], ◌∷◌, ◌++◌, length, map, take, drop, ap, sym, refl, Option, Some, None, get_or, slice_set, slice_index_or, arith}
 use Rattle.std.proofs.Math.Seq.{drop-append_seam, take-append_seam}
 use Rattle.std.proofs.lemmas.Bool.{cases_eq}
-use Rattle.std.proofs.lemmas.List.{append_assoc, length-append, length-map, map-append, take-append-drop, take_more, take_more_set}
+use Rattle.std.proofs.lemmas.List.{append_assoc, get_or-take, length-append, length-map, length-take, length-take-le, map-append, take-append-drop, take_more, take_more_set}
 use Rattle.std.proofs.lemmas.Grind.{flat_map-append}
 use Rattle.std.proofs.Common.{take-take}
 use Rattle.s2id_core.specs.declared.cell_id.CellId.{CellId}
 use Rattle.s2ix_bag_pairs.specs.Collection.{Collection}
 use Rattle.s2ix_bag_pairs.specs.declared.pair.Held.{Held}
 use Rattle.s2ix_table_walk.specs.Contents.{contents_at}
+use Rattle.s2ix_table_queries.specs.Leaf.{leaf_numbered}
 use Rattle.s2ix_table_queries.specs.ManyLeaves.{AreAnswered, over_each, over_first, leaf_in}
 use Rattle.s2ix_table_queries.proofs.LeafByLeaf.{answered_more, leaf_known, over_more}
 
@@ -35,7 +36,7 @@ between before among behind start end start_is end_is =
 
 -- where what is put for the leaves before one ends
 pub start_is : {R : Type 0} (of : Held → R) (held : Collection) (leaves : List ℕ) (n place start : ℕ) (ends : List ℕ) (items : List R)
-    → AreAnswered of held leaves n ends items → place < n → (place ≡ 0 → start ≡ 0) → (0 < place → start ≡ slice_index_or ends (place - 1) 0)
+    → AreAnswered of held leaves n ends items → place ≤ n → (place ≡ 0 → start ≡ 0) → (0 < place → start ≡ slice_index_or ends (place - 1) 0)
     → start ≡ length (over_first place leaves held)
 start_is of held leaves n place start ends items are less first before =
     elim (cases_eq place 0) [
@@ -53,7 +54,7 @@ segment of held leaves n place start ends items are less first before =
     let front = over_first place leaves held in
     let rest = over_each (drop (place + 1) (take n leaves)) held in
     let total = length (over_first n leaves held) in
-    let begins = start_is of held leaves n place start ends items are less first before in
+    let begins = start_is of held leaves n place start ends items are (omega (arith, less)) first before in
     let split = over_split leaves n place held are.within less in
     let mapped : map of (over_first n leaves held) ≡ map of front ++ (map of chain ++ map of rest) =
     ap (map of) split ∙ map-append of front (chain ++ rest) ∙ ap (λ l. map of front ++ l) (map-append of chain rest) in
@@ -103,3 +104,32 @@ answered_by of held leaves k count end ends out new items are less listed some c
     let chain = contents_at (slice_index_or leaves k 0) held in
     answered_more of held leaves k count end ends out new there.0 chain are less listed there.1 count_is (ap (λ n. contents_at n held) raw)
     (omega (arith, end_is, ap length is, length-map chain of)) (put ∙ ap (λ l. take count out ++ l) is)
+
+-- ---- the first leaves of a list
+
+first_over : (leaves : List ℕ) (m k : ℕ) (held : Collection) → k ≤ m → over_first k (take m leaves) held ≡ over_first k leaves held
+first_over leaves m k held within = ap (λ l. over_each l held) (take-take k m leaves within)
+
+-- what is answered of a list's first leaves is answered of the list
+pub answered_first : {R : Type 0} (of : Held → R) (held : Collection) (leaves : List ℕ) (m n : ℕ) (ends : List ℕ) (out : List R)
+    → m ≤ length leaves → AreAnswered of held (take m leaves) n ends out → AreAnswered of held leaves n ends out
+answered_first of held leaves m n ends out listed are =
+    let long = length-take-le m leaves listed in
+    let within : n ≤ m = omega (arith, are.within, long) in
+    let alike = first_over leaves m n held within in
+    record {
+      within = omega (arith, within, listed);
+      are_leaves = λ k less none. are.are_leaves k less (ap leaf_numbered (get_or-take m leaves k 0 (omega (arith, less, within))) ∙ none);
+      listed = are.listed;
+      each_end = λ k less.
+          are.each_end k less ∙ ap length (first_over leaves m (k + 1) held (omega (arith, less, within)));
+      put =
+          ap (λ l. take (length l) out) (sym alike) ∙ are.put ∙ ap (map of) alike;
+    }
+
+-- what is answered has its room
+pub has_room : {R : Type 0} (of : Held → R) (held : Collection) (leaves : List ℕ) (n : ℕ) (ends : List ℕ) (out : List R)
+    → AreAnswered of held leaves n ends out → length (over_first n leaves held) ≤ length out
+has_room of held leaves n ends out are =
+    let over = over_first n leaves held in
+    omega (arith, ap length are.put, length-map over of, length-take (length over) out)

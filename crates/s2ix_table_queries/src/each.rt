@@ -192,6 +192,13 @@ pub(crate) struct Done {
     pub(crate) pairs: usize,
 }
 
+impl Done {
+    pub(crate) const NONE: Done = Done {
+        leaves: 0,
+        pairs: 0,
+    };
+}
+
 // Answers the leaves from one on that lie in the span of contents, as `put_same` says. It is not inlined, so that the loop has the
 // processor's registers for itself.
 #[inline(never)]
@@ -323,7 +330,7 @@ fn put_batch<T: RangeTable, R: OfHeld>(
     done
 }
 
-// Answers the leaves from one on, as `at_each` says.
+// Answers the leaves after those that are done, as `at_each` says.
 pub(crate) fn answer_from<T: RangeTable, R: OfHeld>(
     table: &T,
     leaves: &[u64],
@@ -383,9 +390,5 @@ pub fn at_each<T: RangeTable, R: OfHeld>(
     ensures ends { length ends.new ≡ length ends.old }
     ensures out { length out.new ≡ length out.old }
 {
-    let none = Done {
-        leaves: 0,
-        pairs: 0,
-    };
-    answer_from(table, leaves, none, ends, out)
+    answer_from(table, leaves, Done::NONE, ends, out)
 }

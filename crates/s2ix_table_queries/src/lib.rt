@@ -12,7 +12,7 @@ mod labels;
 pub mod laws;
 mod leaf;
 mod leaf_contents;
-mod leaf_order;
+mod leaf_sorter;
 mod many;
 mod marks;
 mod meter;

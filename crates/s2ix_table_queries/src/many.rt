@@ -1,42 +1,52 @@
-//! What lies over each of very many leaves, which are put into order first.
+//! What lies over each of thousands of leaves, which are sorted first: as they rise, each lies near the one before, and so does what the table
+//! has over it.
 ghost use Rattle.std.specs.Prelude.{◌≡◌, ◌≢◌, ◌≤◌, ◌<◌, ◌+◌, ◌-◌, ◌++◌, None, IfSome, length, map, slice_index_or, take};
 ghost use Rattle.s2ix_bag_pairs.specs.Collection.{Collection};
 ghost use Rattle.s2ix_table_walk.specs.Contents.{contents_at};
 ghost use Rattle.s2ix_table_queries.specs.Leaf.{leaf_numbered};
 ghost use Rattle.s2ix_table_queries.specs.ManyLeaves.{AreAnswered, IsNoLeaf, LacksRoom, over_first};
 
+use crate::bookmark::BATCH;
 use crate::each::{Done, Each, EachStop, answer_from, at_each};
-use crate::leaf_order::{CHUNK, LeafOrder, mostly_rise};
+use crate::leaf::leaf_of;
+use crate::leaf_sorter::{CHUNK, LeafSorter, mostly_rise};
 use crate::of_held::OfHeld;
 use crate::table::RangeTable;
 use s2id_core::OutOfMemory;
 use std::alloc::Global;
 
-// So many leaves or more are put in order; fewer are quicker answered as they are.
+// At least so many leaves are sorted. Fewer are quicker answered as they come.
 const MANY: usize = 4_096;
 
-// How many items there is room for, to a leaf, while leaves are in order.
+// In a table of fewer ranges the next leaf is quickly found wherever it lies.
+const MANY_RANGES: usize = 1_024;
+
+// For so many items a leaf there is room while leaves are sorted. If more pairs lie over each, they are answered as they come.
 const ITEMS: usize = 4;
 
-// Leaves in order, and what lies over each of them.
+// Buffers for a chunk of leaves: the sorted leaves, and what `at_each` puts for them.
 #[derive(Drop)]
-struct Ordered<R> {
-    order: LeafOrder,
+struct Buffers<R> {
+    sorter: LeafSorter,
     ends: Vec<usize>,
     items: Vec<R>,
 }
 
-impl<R: OfHeld> Ordered<R> {
-    // Room for so many leaves; `item` fills it. `OutOfMemory` if a growth is refused.
-    fn with_room(alloc: Global, count: usize, item: R) -> Result<Ordered<R>, OutOfMemory> {
-        let order = LeafOrder::with_room(alloc, count)?;
+impl<R: OfHeld> Buffers<R> {
+    // Buffers for so many leaves; `item` fills them. `OutOfMemory` if a growth is refused.
+    fn with_room(alloc: Global, count: usize, item: R) -> Result<Buffers<R>, OutOfMemory> {
+        let sorter = LeafSorter::with_room(alloc, count)?;
         let ends = Vec::from_elem(alloc, 0, count)?;
         let items = Vec::from_elem(alloc, item, count.saturating_mul(ITEMS))?;
-        Ok(Ordered { order, ends, items })
+        Ok(Buffers {
+            sorter,
+            ends,
+            items,
+        })
     }
 }
 
-// Leaves that are answered: the first ones of a list, so many of them.
+// The first `count` of some leaves, and what `at_each` put for them.
 #[derive(Clone, Copy)]
 struct Answered<'a, R> {
     leaves: &'a [u64],
@@ -46,34 +56,34 @@ struct Answered<'a, R> {
 }
 
 impl<'a, R: OfHeld> Answered<'a, R> {
-    // What is put for the leaf at a place, if it has that number. O(1).
+    // The items of the leaf at an index. `None` if it isn't answered, or has another number than this. O(1).
     #[inline(always)]
-    fn items_at(&self, place: usize, number: u64) -> Option<&'a [R]>
+    fn items_at(&self, index: usize, number: u64) -> Option<&'a [R]>
         ensures items { (held : Collection) → AreAnswered R.of held self.now.leaves.now self.now.count self.now.ends.now self.now.items.now
             → IfSome result (λ items. items.now ≡ map R.of (contents_at number held)) }
         ensures leaf { (held : Collection) → AreAnswered R.of held self.now.leaves.now self.now.count self.now.ends.now self.now.items.now
             → IfSome result (λ items. leaf_numbered number ≢ None) }
     {
-        if place >= self.count.min(self.leaves.len()).min(self.ends.len()) {
+        if index >= self.count.min(self.leaves.len()).min(self.ends.len()) {
             return None;
         }
-        let start = end_before(self.ends, place);
-        let end = self.ends[place];
-        if self.leaves[place] != number || start > end || end > self.items.len() {
+        let start = end_before(self.ends, index);
+        let end = self.ends[index];
+        if self.leaves[index] != number || start > end || end > self.items.len() {
             return None;
         }
         Some(&self.items[start..end])
     }
 }
 
-// Where what is put for the leaves before a place ends.
+// Where the items of all leaves before an index end.
 #[inline(always)]
-fn end_before(ends: &[usize], place: usize) -> usize
-    requires listed { place ≤ length ends.now }
-    ensures first { place ≡ 0 → result ≡ 0 }
-    ensures before { 0 < place → result ≡ slice_index_or ends.now (place - 1) 0 }
+fn end_before(ends: &[usize], index: usize) -> usize
+    requires listed { index ≤ length ends.now }
+    ensures first { index ≡ 0 → result ≡ 0 }
+    ensures before { 0 < index → result ≡ slice_index_or ends.now (index - 1) 0 }
 {
-    if place == 0 { 0 } else { ends[place - 1] }
+    if index == 0 { 0 } else { ends[index - 1] }
 }
 
 // Puts items into a buffer, from a place of it on; returns where they end, or `None` if there is no room for them all.
@@ -95,13 +105,14 @@ fn put_items<R: Copy>(items: &[R], out: &mut [R], from: usize) -> Option<usize>
     Some(from + items.len())
 }
 
-// Answers the leaves from one on by what is put for them in order, each at the place that is told, as long as there is room. No clause says
-// how many are answered: this only saves work.
-fn put_each<T: RangeTable, R: OfHeld>(
+// Copies answers to where the order of the caller's leaves wants them, for the leaves after those that are done. `ranks` has for each of these
+// leaves its index in what is answered. It stops at the first leaf that has no answer there, or no room. No clause says how many it answers:
+// this only saves work.
+fn copy_answers<T: RangeTable, R: OfHeld>(
     table: &T,
     leaves: &[u64],
     answered: &Answered<'_, R>,
-    places: &[u32],
+    ranks: &[u16],
     before: Done,
     ends: &mut [usize],
     out: &mut [R],
@@ -118,11 +129,11 @@ fn put_each<T: RangeTable, R: OfHeld>(
     ensures room { result.pairs ≤ length out.old }
 {
     let mut done = before;
-    for place in places {
+    for rank in ranks {
         if done.leaves >= leaves.len() || done.leaves >= ends.len() {
             return done;
         }
-        let Some(items) = answered.items_at(*place as usize, leaves[done.leaves]) else {
+        let Some(items) = answered.items_at(usize::from(*rank), leaves[done.leaves]) else {
             return done;
         };
         let Some(end) = put_items(items, out, done.pairs) else {
@@ -137,22 +148,63 @@ fn put_each<T: RangeTable, R: OfHeld>(
     done
 }
 
-// How many leaves are put in order next: as many as there would be room for if one pair lay over each.
-fn next_count<R>(leaves: &[u64], done: Done, ends: &[usize], out: &[R]) -> usize
-    ensures { result ≤ length leaves.now - done.leaves }
+// How many numbers at the front of a list are leaves'. O(n) for n numbers.
+fn leading_leaves(numbers: &[u64]) -> usize
+    ensures { result ≤ length numbers.now }
 {
-    let room = out.len().saturating_sub(done.pairs);
-    let listed = ends.len().saturating_sub(done.leaves);
-    let behind = leaves.len().saturating_sub(done.leaves);
-    behind.min(listed).min(room).min(CHUNK)
+    let mut count = 0;
+    while count < numbers.len() && leaf_of(numbers[count]).is_some() {
+        count += 1;
+    }
+    count
 }
 
-// Answers so many leaves from one on, as `put_each` says.
-fn put_ordered<T: RangeTable, R: OfHeld>(
+// How many leaves are sorted next: those that are left, up to the first number that is no leaf's, but at most a chunk, and at most as many as
+// there is room for if as many pairs lie over each as over those that are done. 0 if these are too many to a leaf.
+fn next_count<R>(leaves: &[u64], done: Done, ends: &[usize], out: &[R]) -> usize
+    requires { done.leaves ≤ length leaves.now }
+    ensures { result ≤ length leaves.now - done.leaves }
+{
+    if done.pairs > done.leaves.saturating_mul(ITEMS) {
+        return 0;
+    }
+    let ends_left = ends.len().saturating_sub(done.leaves);
+    let room_left = out.len().saturating_sub(done.pairs);
+    let fitting = room_left.saturating_mul(done.leaves) / done.pairs.max(1);
+    let most = (leaves.len() - done.leaves)
+        .min(CHUNK)
+        .min(ends_left)
+        .min(fitting);
+    leading_leaves(&leaves[done.leaves..done.leaves + most])
+}
+
+// Answers a batch of leaves as they come, which tells how many pairs lie over a leaf.
+fn answer_sample<T: RangeTable, R: OfHeld>(
+    table: &T,
+    leaves: &[u64],
+    ends: &mut [usize],
+    out: &mut [R],
+) -> Done
+    ensures same { length out.new ≡ length out.old }
+    ensures listed { length ends.new ≡ length ends.old }
+    ensures answered { AreAnswered R.of (T.pairs table.now) leaves.now result.leaves ends.new out.new }
+    ensures count { result.pairs ≡ length (over_first result.leaves leaves.now (T.pairs table.now)) }
+    ensures room { result.pairs ≤ length out.old }
+{
+    let sample = &leaves[..leaves.len().min(BATCH)];
+    let each = at_each(table, sample, ends, out);
+    Done {
+        leaves: each.answered,
+        pairs: end_before(ends, each.answered),
+    }
+}
+
+// Sorts so many leaves after those that are done, asks `at_each` for them, and copies the answers. It may answer fewer, as `copy_answers` says.
+fn answer_chunk<T: RangeTable, R: OfHeld>(
     table: &T,
     leaves: &[u64],
     count: usize,
-    ordered: &mut Ordered<R>,
+    buffers: &mut Buffers<R>,
     before: Done,
     ends: &mut [usize],
     out: &mut [R],
@@ -167,25 +219,24 @@ fn put_ordered<T: RangeTable, R: OfHeld>(
     ensures count { result.pairs ≡ length (over_first result.leaves leaves.now (T.pairs table.now)) }
     ensures room { result.pairs ≤ length out.old }
 {
-    let count = ordered
-        .order
-        .order(&leaves[before.leaves..before.leaves + count]);
-    let order = &ordered.order;
-    let in_order = &order.leaves[..count.min(order.leaves.len())];
-    let each = at_each(table, in_order, &mut ordered.ends, &mut ordered.items);
+    let chunk = &leaves[before.leaves..before.leaves + count];
+    let sorted_count = buffers.sorter.sort(chunk);
+    let sorter = &buffers.sorter;
+    let sorted = &sorter.leaves[..sorted_count.min(sorter.leaves.len())];
+    let each = at_each(table, sorted, &mut buffers.ends, &mut buffers.items);
     let answered = Answered {
-        leaves: in_order,
+        leaves: sorted,
         count: each.answered,
-        ends: &ordered.ends,
-        items: &ordered.items,
+        ends: &buffers.ends,
+        items: &buffers.items,
     };
-    let places = &order.places[..count.min(order.places.len())];
-    put_each(table, leaves, &answered, places, before, ends, out)
+    let ranks = &sorter.ranks[..sorted_count.min(sorter.ranks.len())];
+    copy_answers(table, leaves, &answered, ranks, before, ends, out)
 }
 
-// Answers leaves as far as they can be answered in order, if they are many and don't rise. It stops early if memory is refused, a number is
-// no leaf's, or room is short.
-fn put_all_ordered<T: RangeTable, R: OfHeld>(
+// Answers leaves chunk by chunk, each sorted, after a batch as they come. It leaves all to its caller if they are few or the table is small,
+// and the rest if the first chunk mostly rises or the buffers are refused. It ends after a chunk that isn't answered whole.
+fn answer_in_order<T: RangeTable, R: OfHeld>(
     alloc: Global,
     table: &T,
     leaves: &[u64],
@@ -198,19 +249,19 @@ fn put_all_ordered<T: RangeTable, R: OfHeld>(
     ensures count { result.pairs ≡ length (over_first result.leaves leaves.now (T.pairs table.now)) }
     ensures room { result.pairs ≤ length out.old }
 {
-    let mut done = Done {
-        leaves: 0,
-        pairs: 0,
-    };
+    if leaves.len() < MANY || table.range_count() < MANY_RANGES {
+        return Done::NONE;
+    }
+    let mut done = answer_sample(table, leaves, ends, out);
     let mut count = next_count(leaves, done, ends, out);
-    if count < MANY || out.is_empty() || mostly_rise(&leaves[..count]) {
+    if count < MANY || mostly_rise(&leaves[done.leaves..done.leaves + count]) || out.is_empty() {
         return done;
     }
-    let Ok(mut ordered) = Ordered::with_room(alloc, count, out[0]) else {
+    let Ok(mut buffers) = Buffers::with_room(alloc, count, out[0]) else {
         return done;
     };
     while count >= MANY {
-        let next = put_ordered(table, leaves, count, &mut ordered, done, ends, out);
+        let next = answer_chunk(table, leaves, count, &mut buffers, done, ends, out);
         if next.leaves < done.leaves + count {
             return next;
         }
@@ -220,10 +271,11 @@ fn put_all_ordered<T: RangeTable, R: OfHeld>(
     done
 }
 
-/// Puts what lies over each of some leaves into `out`, as [`at_each`] does; it is quicker for 4,096 leaves or more that don't rise. It puts
-/// these in order first, at most 32,768 at once, and looks for them as they rise. This takes memory, some 44 bytes for each leaf that is in
-/// order if an item is a label. If it doesn't get that, it does without. O(log n + k) for each leaf with k pairs over it, and as much for
-/// each that it has put in order before room ends: at most as many as `out` has room for.
+/// Puts what lies over each of some leaves into `out`, as [`at_each`] does, and is quicker for thousands of leaves in no order over a table
+/// that isn't small: it sorts them first. It doesn't if there are fewer than 4,096 leaves, or fewer than 1,024 ranges, or if the first leaves
+/// mostly rise, or if more than 4 pairs lie over each on average. It sorts at most 32,768 leaves at once, and no more than `out` seems to have
+/// room for. For that it allocates 42 bytes a leaf if an item is a label; if this is refused, it sorts none. O(log n + k) for each leaf with k
+/// pairs over it, and as much for each that it has sorted and then doesn't answer, since there is no room.
 pub fn at_many<T: RangeTable, R: OfHeld>(
     alloc: Global,
     table: &T,
@@ -238,6 +290,6 @@ pub fn at_many<T: RangeTable, R: OfHeld>(
     ensures ends { length ends.new ≡ length ends.old }
     ensures out { length out.new ≡ length out.old }
 {
-    let done = put_all_ordered(alloc, table, leaves, ends, out);
+    let done = answer_in_order(alloc, table, leaves, ends, out);
     answer_from(table, leaves, done, ends, out)
 }

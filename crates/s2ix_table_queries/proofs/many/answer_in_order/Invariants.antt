@@ -1,7 +1,7 @@
 -- The leaves so far are answered.
 use Rattle.std.proofs.Common.{◌≡◌, ◌≤◌, ◌-◌, length}
 use Rattle.s2ix_table_queries.specs.ManyLeaves.{AreAnswered, over_first}
-use Rattle.s2ix_table_queries.proofs.many.put_all_ordered.Given as goal
+use Rattle.s2ix_table_queries.proofs.many.answer_in_order.Given as goal
 
 abbrev pub invariant-loop-count : goal.invariant-loop-count
 invariant-loop-count g l =
