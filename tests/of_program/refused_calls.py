@@ -16,10 +16,10 @@ WELL, NO_SET_UP = "\ntest result: ok\n", "no memory for the set-up"
 TOLD = re.compile(r"refused: (OutOfMemory|(Edit|Undo|Redo)\(OutOfMemory\)|Write)\n")
 # A crate, a test of what a call needs, the same test with the call, and how many growths the call asks for: a bag's changed face takes
 # nine, for its pairs, for five short lists of its parts and bundles, and for the counts of sharers of the pairs, of a bundle and of the
-# parts; a face that loses its last pair takes four. A text of nine pairs asks for as many as one of a pair. A copy of a table asks for two
-# lists of its parts, and shares what is in these, and where they begin. A copy of a store asks for none. The first step beside it asks for
-# these two lists and for the count of the new table's sharers, and for two growths less, since the copied lists have room. A step of a store
-# on one face asks for as many beside five other faces as without them, or after a copy that is gone.
+# parts; a face that loses its last pair takes four. A text of nine pairs asks for as many as one of a pair. A copy of a table asks for four
+# lists of its parts, and shares what is in these. A copy of a store asks for none. The first step beside it asks for these four lists and for
+# the count of the new table's sharers, and for two growths less, since the copied lists have room. A step of a store on one face asks for
+# as many beside five other faces as without them, or after a copy that is gone.
 COUNTED = [
     ("s2ix_bag_tests", "refused_growths::nothing", "refused_growths::an_empty_bag", 0),
     ("s2ix_bag_tests", "refused_growths::a_bag", "refused_growths::a_copied_bag", 0),
@@ -27,14 +27,14 @@ COUNTED = [
     ("s2ix_text_tests", "refused_growths::a_dump_of_a_pair", "refused_growths::a_dump_of_nine_pairs", 0),
     ("s2ix_text_tests", "refused_growths::a_change_of_a_pair", "refused_growths::a_change_of_nine_pairs", 0),
     ("s2ix_table_tests", "refused_growths::a_bag", "refused_growths::a_face_of_a_bag", 0),
-    ("s2ix_table_tests", "refused_growths::a_table_in_parts", "refused_growths::a_copied_table_in_parts", 2),
+    ("s2ix_table_tests", "refused_growths::a_table_in_parts", "refused_growths::a_copied_table_in_parts", 4),
     ("s2ix_edit_tests", "refused_tests::refused_regions", "refused_tests::refused_regions_after_a_forget", 0),
     ("s2ix_edit_tests", "refused_tests::refused_regions", "refused_tests::refused_regions_after_older_are_forgotten", 0),
     ("s2ix_edit_tests", "refused_growths::a_store_of_a_face", "refused_growths::an_edit_of_a_face", 26),
     ("s2ix_edit_tests", "refused_growths::an_edit_of_a_face", "refused_growths::an_undo_of_a_face", 24),
     ("s2ix_edit_tests", "refused_growths::an_undo_of_a_face", "refused_growths::a_redo_of_a_face", 22),
     ("s2ix_edit_tests", "refused_growths::a_store_of_six_faces", "refused_growths::a_copied_store_of_six_faces", 0),
-    ("s2ix_edit_tests", "refused_growths::a_copied_store_of_six_faces", "refused_growths::an_edit_beside_a_copy", 27),
+    ("s2ix_edit_tests", "refused_growths::a_copied_store_of_six_faces", "refused_growths::an_edit_beside_a_copy", 29),
     ("s2ix_edit_tests", "refused_growths::a_store_of_six_faces", "refused_growths::an_edit_after_a_copy", 26),
     ("s2ix_edit_tests", "refused_growths::a_store_of_six_faces", "refused_growths::an_edit_beside_five_faces", 26),
     ("s2ix_edit_tests", "refused_growths::an_edit_beside_five_faces", "refused_growths::an_undo_beside_five_faces", 24),

@@ -45,11 +45,10 @@ put_offsets spans made same now new f e k order within many many_new is put =
     }
 
 -- where parts begin, if new begins take the place of those that there were
-pub begins_put : {A : Type 0} (value : A → PartBegins) (new : Option A) (old now : PartBegins) (starts : List ℕ)
-    → (new ≡ None → starts ≡ old.starts.items) → IfSome new (λ made. (value made).starts.items ≡ starts)
-    → MatchOption new (now ≡ old) (λ made. now ≡ value made) → now.starts.items ≡ starts
-begins_put value None old now starts stay made put = ap (λ (b : PartBegins). b.starts.items) put ∙ sym (stay refl)
-begins_put value (Some new) old now starts stay made put = ap (λ (b : PartBegins). b.starts.items) put ∙ made
+pub begins_put : (new : Option PartBegins) (old now : PartBegins) (starts : List ℕ) → (new ≡ None → starts ≡ old.starts.items)
+    → IfSome new (λ made. made.starts.items ≡ starts) → MatchOption new (now ≡ old) (λ made. now ≡ made) → now.starts.items ≡ starts
+begins_put None old now starts stay made put = ap (λ (b : PartBegins). b.starts.items) put ∙ sym (stay refl)
+begins_put (Some new) old now starts stay made put = ap (λ (b : PartBegins). b.starts.items) put ∙ made
 
 -- parts that stay lie under the same heavy pairs as before
 pub put_covered : (before after : Collection) (spans made : List SpanRanges) (f e : ℕ) → covered after (take f spans) ≡ covered before (take f spans)

@@ -31,7 +31,7 @@ pub record IsSound (parts : List SpanRanges) (heavy_places : List (Option HeavyP
 
 -- it holds of a table
 pub sound_of : (t : FacedTable)
-    → IsSound (spans_of t.parts.items) (heavy_places_of t.parts.items) t.begins.value.starts.items t.offsets.items t.heavy t.count
+    → IsSound (spans_of t.parts.items) (heavy_places_of t.parts.items) t.begins.starts.items t.offsets.items t.heavy t.count
 sound_of t = record {
   joined = t.joined;
   layered = t.layered;

@@ -49,6 +49,18 @@ impl Blocks {
         count_lasts(&mut self.lasts, starts, 1 << self.shift);
     }
 
+    // A copy. O(k) for k blocks. `OutOfMemory` if a growth is refused.
+    pub(crate) fn copied(&self, alloc: Global) -> Result<Blocks, OutOfMemory>
+        ensures lasts { IfOk result (λ copy. copy.lasts.items ≡ self.now.lasts.items) }
+        ensures shift { IfOk result (λ copy. copy.shift ≡ self.now.shift) }
+    {
+        let lasts = Vec::from_slice(alloc, &self.lasts)?;
+        Ok(Blocks {
+            lasts,
+            shift: self.shift,
+        })
+    }
+
     // A few of the parts that begin at these starts: one of them has the leaf. It reads one start. O(1).
     #[inline]
     pub(crate) fn parts_with(&self, starts: &[u64], leaf: u64) -> Window

@@ -48,7 +48,6 @@ use s2ix_table_queries::{BATCH, Bookmark, LeafContents, RangeTable, Stretch};
 use s2ix_table_spans::SpanTable;
 use s2ix_table_walk::{LeafWindow, RangeRow, Window};
 use std::alloc::Global;
-use std::sync::Arc;
 
 /// A range table in parts. Each part is a table with shared chains over some leaves of one face, and the pairs of heavy cells lie in chunks
 /// over the parts. A table that [`FacedTable::rebuilt`] makes of this one shares the parts that stay. Ranges that meet where two parts do are
@@ -61,13 +60,13 @@ pub struct FacedTable {
     pub(crate) parts: Vec<Part>,
     // for each part the place among all of its first range, and the leaf number at which that range begins
     pub(crate) offsets: Vec<Offset>,
-    // where the parts begin; copies share it
-    pub(crate) begins: Arc<PartBegins>,
+    // where the parts begin
+    pub(crate) begins: PartBegins,
     // how many ranges there are
     count: usize,
     // the heavy pairs of each face
     pub(crate) heavy: [HeavyPairs; FACES],
-    ghost joined: { AreJoined (spans_of parts.items) (heavy_in heavy) begins.value.starts.items offsets.items count } by { joined-prop (spans_of parts.items) (heavy_in heavy) begins.value.starts.items offsets.items count },
+    ghost joined: { AreJoined (spans_of parts.items) (heavy_in heavy) begins.starts.items offsets.items count } by { joined-prop (spans_of parts.items) (heavy_in heavy) begins.starts.items offsets.items count },
     ghost layered: { AreLayered heavy (spans_of parts.items) (heavy_places_of parts.items) } by { layered-prop heavy (spans_of parts.items) (heavy_places_of parts.items) },
     ghost rises: { IsCollection (pairs_of parts.items heavy) } by { IsCollection-prop 0 (pairs_of parts.items heavy) },
     ghost table: { IsRangeTable (pairs_of parts.items heavy) (ranges_of parts.items heavy) },
@@ -398,11 +397,11 @@ impl FacedTable {
         requires within_limit { length (changed (⟦<FacedTable as RangeTable>⟧.pairs self.now) change.now) ≤ 1000000 }
         ensures face { IfOk result (λ new. new.face ≡ face) }
         ensures new_face { IfOk result (λ new. IsFaceWith face (held_on face (changed (⟦<FacedTable as RangeTable>⟧.pairs self.now) change.now))
-            (parts_of_face (spans_of self.now.parts.items) self.now.begins.value.faces face)
-            (of_face (heavy_places_of self.now.parts.items) self.now.begins.value.faces face)
+            (parts_of_face (spans_of self.now.parts.items) self.now.begins.faces face)
+            (of_face (heavy_places_of self.now.parts.items) self.now.begins.faces face)
             new.first new.end (spans_of new.parts.items) (heavy_places_of new.parts.items) new.heavy) }
         ensures before { IfOk result (λ new. 0 < new.first → new.heavy ≡ chunks_on self.now.heavy face) }
-        ensures behind { IfOk result (λ new. new.end < length (parts_of_face (spans_of self.now.parts.items) self.now.begins.value.faces face)
+        ensures behind { IfOk result (λ new. new.end < length (parts_of_face (spans_of self.now.parts.items) self.now.begins.faces face)
             → new.heavy ≡ chunks_on self.now.heavy face) }
     {
         let before = self.face(face);
@@ -416,8 +415,8 @@ impl FacedTable {
     pub(crate) fn face(&self, face: u8) -> Face<'_>
         requires { face < 6 }
         ensures face { result.face ≡ face }
-        ensures parts { spans_of result.parts.now ≡ parts_of_face (spans_of self.now.parts.items) self.now.begins.value.faces face }
-        ensures heavy_places { heavy_places_of result.parts.now ≡ of_face (heavy_places_of self.now.parts.items) self.now.begins.value.faces face }
+        ensures parts { spans_of result.parts.now ≡ parts_of_face (spans_of self.now.parts.items) self.now.begins.faces face }
+        ensures heavy_places { heavy_places_of result.parts.now ≡ of_face (heavy_places_of self.now.parts.items) self.now.begins.faces face }
         ensures heavy { result.heavy.now ≡ chunks_on self.now.heavy face }
         ensures layered { IsFaceLayered face result.heavy.now (spans_of result.parts.now) (heavy_places_of result.parts.now) }
         ensures pairs { face_pairs result.parts.now result.heavy.now
@@ -481,7 +480,7 @@ impl FacedTable {
         ensures parts { self.new.parts.items ≡ self.old.parts.items }
         ensures offsets { self.new.offsets.items ≡ self.old.offsets.items }
         ensures heavy { self.new.heavy ≡ self.old.heavy }
-        ensures stay { self.new.begins.value ≡ self.old.begins.value }
+        ensures stay { self.new.begins ≡ self.old.begins }
         ensures room { OnOk result (length self.new.parts.items + count ≤ vec_capacity self.new.parts) }
         ensures offsets_room { OnOk result (length self.new.offsets.items + count ≤ vec_capacity self.new.offsets) }
     {
@@ -490,13 +489,9 @@ impl FacedTable {
         Ok(())
     }
 
-    // Where the parts begin that there are then: `None` if new parts begin where those did that give way, so that all begins stay. This takes
-    // O(k) for k new parts, and else O(p) for p parts. `OutOfMemory` if a growth is refused.
-    fn begins_after(
-        &self,
-        alloc: Global,
-        new: &NewFace,
-    ) -> Result<Option<Arc<PartBegins>>, OutOfMemory>
+    // Returns where the parts begin once `new` is in its place, or `None` if they begin at the same leaves as before. `None` takes O(k) for k
+    // new parts, and any other answer O(p) for p parts. `OutOfMemory` if a growth is refused.
+    fn begins_after(&self, alloc: Global, new: &NewFace) -> Result<Option<PartBegins>, OutOfMemory>
         requires order { new.now.first ≤ new.now.end }
         requires within { new.now.end ≤ length self.now.parts.items }
         requires neighbours { AreNeighbours 1
@@ -504,26 +499,26 @@ impl FacedTable {
         requires faces { BeginFaces (with_parts (spans_of self.now.parts.items) new.now.first new.now.end (spans_of new.now.parts.items)) }
         ensures stay { IfOk result (λ begins. begins ≡ None
             → starts_of (with_parts (spans_of self.now.parts.items) new.now.first new.now.end (spans_of new.now.parts.items))
-            ≡ self.now.begins.value.starts.items) }
-        ensures made { IfOkSome result (λ begins. begins.value.starts.items
+            ≡ self.now.begins.starts.items) }
+        ensures made { IfOkSome result (λ begins. begins.starts.items
             ≡ starts_of (with_parts (spans_of self.now.parts.items) new.now.first new.now.end (spans_of new.now.parts.items))) }
     {
-        let begins = &*self.begins;
+        let begins = &self.begins;
         if begin_at(&new.parts, &begins.starts[new.first..new.end]) {
             return Ok(None);
         }
         let starts = starts_with(alloc, &begins.starts, new.first, new.end, &new.parts)?;
-        Ok(Some(Arc::new(alloc, PartBegins::new(alloc, starts)?)?))
+        Ok(Some(PartBegins::new(alloc, starts)?))
     }
 
-    /// A copy of the table, which shares its parts, where they begin, and its heavy pairs, and has room for a few parts more. O(p) for p
-    /// parts, since each counts its sharers. `OutOfMemory` if a growth is refused, or what it shares is shared too often.
+    /// A copy of the table, which shares its parts and its heavy pairs, and has room for a few parts more. O(p) for p parts, since each
+    /// counts its sharers. `OutOfMemory` if a growth is refused, or what the copy shares is shared too often.
     pub fn copied(&self, alloc: Global) -> Result<FacedTable, OutOfMemory>
         ensures { IfOk result (λ table. ⟦<FacedTable as RangeTable>⟧.pairs table ≡ ⟦<FacedTable as RangeTable>⟧.pairs self.now) }
     {
         let parts = shared_parts(alloc, &self.parts)?;
         let offsets = copy_of(alloc, &self.offsets)?;
-        let begins = self.begins.clone()?;
+        let begins = self.begins.copied(alloc)?;
         let heavy = self.heavy.clone()?;
         Ok(FacedTable {
             parts,
@@ -546,7 +541,7 @@ impl FacedTable {
         ensures heavy { IfOk result (λ table. table.heavy ≡ heavy) }
     {
         let starts = begins_of(alloc, &parts)?;
-        let begins = Arc::new(alloc, PartBegins::new(alloc, starts)?)?;
+        let begins = PartBegins::new(alloc, starts)?;
         let mut offsets = uncounted(alloc, parts.len())?;
         let layout = Layout {
             parts: &parts,
@@ -567,8 +562,8 @@ impl FacedTable {
         requires { face < 6 }
         ensures neighbours { AreNeighbours (face_begin face) (spans_of result.now) (face_begin (face + 1)) }
         ensures pairs { held_in (spans_of result.now) ≡ held_on face (held_in (spans_of self.now.parts.items)) }
-        ensures slice { spans_of result.now ≡ parts_of_face (spans_of self.now.parts.items) self.now.begins.value.faces face }
-        ensures heavy_places { heavy_places_of result.now ≡ of_face (heavy_places_of self.now.parts.items) self.now.begins.value.faces face }
+        ensures slice { spans_of result.now ≡ parts_of_face (spans_of self.now.parts.items) self.now.begins.faces face }
+        ensures heavy_places { heavy_places_of result.now ≡ of_face (heavy_places_of self.now.parts.items) self.now.begins.faces face }
     {
         let faces = &self.begins.faces;
         &self.parts[faces[face]..faces[face + 1]]

@@ -40,7 +40,7 @@ impl FacedTable {
     // The part that has a leaf. O(log p).
     #[inline]
     pub(crate) fn part_with(&self, leaf: CellId) -> usize
-        ensures { IsLastStart self.now.begins.value.starts.items (raw_of leaf) result }
+        ensures { IsLastStart self.now.begins.starts.items (raw_of leaf) result }
     {
         self.begins.part_with(leaf.raw())
     }
@@ -48,7 +48,7 @@ impl FacedTable {
     // The place in a part's table of the range that has a leaf. O(log n).
     #[inline]
     pub(crate) fn found_in(&self, part: usize, leaf: CellId) -> usize
-        requires { IsLastStart self.now.begins.value.starts.items (raw_of leaf) part }
+        requires { IsLastStart self.now.begins.starts.items (raw_of leaf) part }
         ensures { IsFound (table_of (spans_of self.now.parts.items) part).ranges result (raw_of leaf) }
     {
         let span = self.span(part);
@@ -62,7 +62,7 @@ impl FacedTable {
     // The same, quicker if `near` is the place of that range or of one soon before it. Any number is accepted.
     #[inline(always)]
     fn found_from(&self, part: usize, leaf: CellId, near: usize) -> usize
-        requires { IsLastStart self.now.begins.value.starts.items (raw_of leaf) part }
+        requires { IsLastStart self.now.begins.starts.items (raw_of leaf) part }
         ensures { IsFound (table_of (spans_of self.now.parts.items) part).ranges result (raw_of leaf) }
     {
         let span = self.span(part);
@@ -77,7 +77,7 @@ impl FacedTable {
     #[inline]
     pub(crate) fn first_found(&self, leaf: CellId, part: usize, found: usize) -> Option<FacedPlace>
         requires leaf { level_of leaf ≡ 30 }
-        requires part { IsLastStart self.now.begins.value.starts.items (raw_of leaf) part }
+        requires part { IsLastStart self.now.begins.starts.items (raw_of leaf) part }
         requires found { IsFound (table_of (spans_of self.now.parts.items) part).ranges found (raw_of leaf) }
         ensures { LeadsTo (faced_chain (spans_of self.now.parts.items) self.now.heavy) result
             (contents_at (raw_of leaf) (⟦<FacedTable as RangeTable>⟧.pairs self.now)) }
@@ -88,9 +88,9 @@ impl FacedTable {
     // Returns the bookmark itself if its part has the leaf, else one with the right part and no range.
     #[inline(always)]
     fn part_near(&self, leaf: CellId, bookmark: Bookmark) -> Bookmark
-        ensures { IsLastStart self.now.begins.value.starts.items (raw_of leaf) result.part }
+        ensures { IsLastStart self.now.begins.starts.items (raw_of leaf) result.part }
     {
-        let begins = &*self.begins;
+        let begins = &self.begins;
         if is_last_start(&begins.starts, leaf.raw(), bookmark.part) {
             return bookmark;
         }
@@ -103,7 +103,7 @@ impl FacedTable {
     // The bookmark of a leaf's range, quicker if `bookmark` has its part, and quickest if it has that range or one soon before it.
     #[inline(always)]
     pub(crate) fn found_near(&self, leaf: CellId, bookmark: Bookmark) -> Bookmark
-        ensures part { IsLastStart self.now.begins.value.starts.items (raw_of leaf) result.part }
+        ensures part { IsLastStart self.now.begins.starts.items (raw_of leaf) result.part }
         ensures range { IsFound (table_of (spans_of self.now.parts.items) result.part).ranges result.range (raw_of leaf) }
     {
         let near = self.part_near(leaf, bookmark);
@@ -137,7 +137,7 @@ impl FacedTable {
     pub(crate) fn rise_closely(&self, leaves: &[CellId]) -> bool {
         match (leaves.first(), leaves.last()) {
             (Some(first), Some(last)) => {
-                let begins = &*self.begins;
+                let begins = &self.begins;
                 let first = begins.part_with(first.raw());
                 begins.part_with(last.raw()).wrapping_sub(first) < NEAR_PARTS && are_rising(leaves)
             }
@@ -153,7 +153,7 @@ impl FacedTable {
         requires room { length leaves.now ≤ length bookmarks.old }
         ensures { length bookmarks.new ≡ length bookmarks.old }
     {
-        let begins = &*self.begins;
+        let begins = &self.begins;
         let mut lists = [begins.starts.as_slice(); BATCH];
         let mut parts = [0; BATCH];
         let mut most = 0;

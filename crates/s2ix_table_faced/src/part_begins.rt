@@ -13,9 +13,8 @@ use s2id_core::{FACES, OutOfMemory};
 use s2ix_table_parts::{Part, begins_of};
 use s2ix_table_walk::Window;
 use std::alloc::Global;
-use std::sync::Arc;
 
-// Where the parts of a table begin. Copies of a table share it.
+// Where the parts of a table begin.
 #[derive(Debug, Drop)]
 pub(crate) struct PartBegins {
     // the leaf number at which each part's span begins
@@ -46,6 +45,20 @@ impl PartBegins {
         })
     }
 
+    // A copy. O(p) for p parts. `OutOfMemory` if a growth is refused.
+    pub(crate) fn copied(&self, alloc: Global) -> Result<PartBegins, OutOfMemory>
+        ensures starts { IfOk result (λ copy. copy.starts.items ≡ self.now.starts.items) }
+        ensures faces { IfOk result (λ copy. copy.faces ≡ self.now.faces) }
+    {
+        let starts = Vec::from_slice(alloc, &self.starts)?;
+        let blocks = self.blocks.copied(alloc)?;
+        Ok(PartBegins {
+            starts,
+            blocks,
+            faces: self.faces,
+        })
+    }
+
     // A few parts, of which one has a leaf. It reads one start. O(1).
     #[inline]
     pub(crate) fn parts_with(&self, leaf: u64) -> Window
@@ -68,8 +81,8 @@ impl PartBegins {
 }
 
 // Puts new begins into the place of others, if there are new ones.
-pub(crate) fn put_begins(begins: &mut Arc<PartBegins>, new: Option<Arc<PartBegins>>)
-    ensures { MatchOption new (begins.new.value ≡ begins.old.value) (λ made. begins.new.value ≡ made.value) }
+pub(crate) fn put_begins(begins: &mut PartBegins, new: Option<PartBegins>)
+    ensures { MatchOption new (begins.new ≡ begins.old) (λ made. begins.new ≡ made) }
 {
     if let Some(new) = new {
         *begins = new;

@@ -1,7 +1,6 @@
 use Rattle.std.proofs.Common.{◌≡◌, ℕ, ◌+◌, ◌-◌, ◌<◌, ◌≤◌, List, ◌++◌, take, drop, slice_index_or, sym, ◌∙◌, ap, ap₂, arith, subst, AllPairs, Contains}
 use Rattle.std.proofs.lemmas.List.{drop-drop, drop-map, map-append, take-append-drop, take-map}
 use Rattle.s2ix_table_spans.specs.SpanTable.{SpanRanges}
-use Rattle.s2ix_table_faced.specs.declared.part_begins.PartBegins.{PartBegins}
 use Rattle.s2ix_table_walk.specs.Table.{leaf_end}
 use Rattle.s2ix_table_parts.specs.FaceSpans.{face_begin, spans_of, starts_of}
 use Rattle.s2ix_table_parts.specs.Parts.{with_parts}
@@ -35,10 +34,9 @@ pub returns-then-begin_at-clause-stay : goal.returns-then-begin_at-clause-stay
 returns-then-begin_at-clause-stay c =
     let t = c.args.self.now in
     let new = c.args.new.now in
-    λ none. begin_alike (spans_of t.parts.items) (spans_of new.parts.items) t.begins.value.starts.items new.first new.end c.requires.order
+    λ none. begin_alike (spans_of t.parts.items) (spans_of new.parts.items) t.begins.starts.items new.first new.end c.requires.order
     t.joined.starts_are (ap (λ ts. starts_of (spans_of ts)) (sym c.deref.ensures.value) ∙ c.begin_at.ensures c.if-begin_at.true
-    ∙ ap (λ (ns : List ℕ). take (new.end - new.first) (drop new.first ns))
-    (c.deref-2.ensures.value ∙ ap (λ (b : PartBegins). b.starts.items) c.deref-begins.ensures))
+    ∙ ap (λ (ns : List ℕ). take (new.end - new.first) (drop new.first ns)) c.deref-2.ensures.value)
 
 -- where the parts begin then
 then_begin : (c : In_ok-starts) → c.in_ok-starts.starts.items
@@ -48,7 +46,7 @@ then_begin c =
     let new = c.args.new.now in
     put_starts (spans_of t.parts.items) (spans_of new.parts.items) c.deref-3.result.now c.in_ok-starts.starts.items
     (starts_of (spans_of c.deref-4.result.now)) new.first new.end
-    (c.deref-3.ensures.value ∙ ap (λ (b : PartBegins). b.starts.items) c.deref-begins.ensures ∙ t.joined.starts_are)
+    (c.deref-3.ensures.value ∙ t.joined.starts_are)
     (ap (λ ts. starts_of (spans_of ts)) c.deref-4.ensures.value)
     c.in_ok-starts.ensures
 
@@ -67,6 +65,4 @@ new-requires-clause-first c =
     ap (λ (ns : List ℕ). slice_index_or ns 0 0) (then_begin (goal.at.new-requires-clause-first c).In_ok-starts) ∙ first_start _ c.requires.neighbours
 
 pub returns-clause-made : goal.returns-clause-made
-returns-clause-made c =
-    ap (λ (b : PartBegins). b.starts.items) c.in_ok-new-2.ensures.ok ∙ c.in_ok-new.ensures
-    ∙ then_begin (goal.at.returns-clause-made c).In_ok-starts
+returns-clause-made c = c.in_ok-new.ensures ∙ then_begin (goal.at.returns-clause-made c).In_ok-starts

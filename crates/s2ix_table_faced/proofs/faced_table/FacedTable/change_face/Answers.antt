@@ -2,7 +2,6 @@ use Rattle.std.proofs.Common.{◌≡◌, ℕ, ◌+◌, List, ◌++◌, set, take
 use Rattle.s2ix_bag_pairs.specs.Change.{changed}
 use Rattle.s2ix_bag_pairs.specs.Collection.{Collection}
 use Rattle.s2ix_table_spans.specs.SpanTable.{SpanRanges}
-use Rattle.s2ix_table_faced.specs.declared.part_begins.PartBegins.{PartBegins}
 use Rattle.s2ix_table_parts.specs.FaceSpans.{heavy_places_of, spans_of}
 use Rattle.s2ix_table_parts.specs.Neighbours.{held_in}
 use Rattle.s2ix_table_faced.specs.Layout.{heavy_in, pairs_of}
@@ -20,27 +19,25 @@ use Rattle.s2ix_table_faced.proofs.faced_table.FacedTable.change_face.Goals as g
 face_in : (c : After-shifted_by)
     → AreAllMade (changed (pairs_of c.args.self.now.parts.items c.args.self.now.heavy) c.args.change.now)
     (set c.args.self.now.heavy c.args.face c.in_ok-new.new.heavy)
-    (with_parts (spans_of c.args.self.now.parts.items) (first_of_face c.args.self.now.begins.value.faces c.args.face + c.in_ok-new.new.first)
-    (first_of_face c.args.self.now.begins.value.faces c.args.face + c.in_ok-new.new.end) (spans_of c.in_ok-new.new.parts.items))
-    (take (first_of_face c.args.self.now.begins.value.faces c.args.face + c.in_ok-new.new.first) (heavy_places_of c.args.self.now.parts.items)
+    (with_parts (spans_of c.args.self.now.parts.items) (first_of_face c.args.self.now.begins.faces c.args.face + c.in_ok-new.new.first)
+    (first_of_face c.args.self.now.begins.faces c.args.face + c.in_ok-new.new.end) (spans_of c.in_ok-new.new.parts.items))
+    (take (first_of_face c.args.self.now.begins.faces c.args.face + c.in_ok-new.new.first) (heavy_places_of c.args.self.now.parts.items)
     ++ (heavy_places_of c.in_ok-new.new.parts.items
-    ++ drop (first_of_face c.args.self.now.begins.value.faces c.args.face + c.in_ok-new.new.end) (heavy_places_of c.args.self.now.parts.items)))
+    ++ drop (first_of_face c.args.self.now.begins.faces c.args.face + c.in_ok-new.new.end) (heavy_places_of c.args.self.now.parts.items)))
 face_in c =
     let t = c.args.self.now in
     let new = c.in_ok-new.new in
-    face_put_in c.args.change.now c.args.face new.first new.end (spans_of new.parts.items) (heavy_places_of new.parts.items) new.heavy t.joined t.begins.value.firsts t.layered
+    face_put_in c.args.change.now c.args.face new.first new.end (spans_of new.parts.items) (heavy_places_of new.parts.items) new.heavy t.joined t.begins.firsts t.layered
     c.all_are_chunks.ensures c.requires.six c.requires.only c.requires.rises c.requires.within_limit c.in_ok-new.ensures.new_face
 
 -- the place of what gives way among all parts
-first_in : (c : After-shifted_by) → c.shifted_by.result.first ≡ first_of_face c.args.self.now.begins.value.faces c.args.face + c.in_ok-new.new.first
+first_in : (c : After-shifted_by) → c.shifted_by.result.first ≡ first_of_face c.args.self.now.begins.faces c.args.face + c.in_ok-new.new.first
 first_in c =
-    c.shifted_by.ensures.first ∙ ap (λ (b : PartBegins). first_of_face b.faces c.from.result + c.in_ok-new.new.first) c.deref.ensures
-    ∙ ap (λ k. first_of_face c.args.self.now.begins.value.faces k + c.in_ok-new.new.first) c.from.ensures
+    c.shifted_by.ensures.first ∙ ap (λ k. first_of_face c.args.self.now.begins.faces k + c.in_ok-new.new.first) c.from.ensures
 
-end_in : (c : After-shifted_by) → c.shifted_by.result.end ≡ first_of_face c.args.self.now.begins.value.faces c.args.face + c.in_ok-new.new.end
+end_in : (c : After-shifted_by) → c.shifted_by.result.end ≡ first_of_face c.args.self.now.begins.faces c.args.face + c.in_ok-new.new.end
 end_in c =
-    c.shifted_by.ensures.end ∙ ap (λ (b : PartBegins). first_of_face b.faces c.from.result + c.in_ok-new.new.end) c.deref.ensures
-    ∙ ap (λ k. first_of_face c.args.self.now.begins.value.faces k + c.in_ok-new.new.end) c.from.ensures
+    c.shifted_by.ensures.end ∙ ap (λ k. first_of_face c.args.self.now.begins.faces k + c.in_ok-new.new.end) c.from.ensures
 
 -- the same by the numbers that are put in
 put_in : (c : After-shifted_by)
@@ -55,7 +52,7 @@ put_in c =
     let new = c.in_ok-new.new in
     let put = c.shifted_by.result in
     let is = c.shifted_by.ensures in
-    let first = first_of_face t.begins.value.faces face in
+    let first = first_of_face t.begins.faces face in
     same_put (changed (pairs_of t.parts.items t.heavy) c.args.change.now) t.heavy (spans_of t.parts.items)
     (spans_of new.parts.items) (spans_of put.parts.items) (heavy_places_of t.parts.items) (heavy_places_of new.parts.items) (heavy_places_of put.parts.items) face
     (first + new.first) (first + new.end) put.face put.first put.end new.heavy put.heavy
@@ -67,7 +64,7 @@ put-requires-clause-within c =
     let a = (goal.at-put-requires-clause-within c).After-shifted_by in
     let t = c.args.self.now in
     let new = c.in_ok-new in
-    let by = face_end c.args.face new.new.end t.joined t.begins.value.firsts c.requires.six new.ensures.new_face.within in
+    let by = face_end c.args.face new.new.end t.joined t.begins.firsts c.requires.six new.ensures.new_face.within in
     let last = end_in a in
     let many = many_shared t.parts.items in
     omega (arith, by, last, many)
@@ -87,7 +84,7 @@ put-requires-clause-front c =
     let is = c.shifted_by.ensures in
     same_front t.heavy (spans_of t.parts.items) c.args.face put.face put.first _ new.heavy put.heavy (is.face ∙ c.in_ok-new.ensures.face) (first_in a)
     is.heavy
-    (front_kept t.heavy c.args.face new.first new.heavy t.joined t.begins.value.firsts c.requires.six t.layered.six t.layered.on_faces (face_in a).layout.layered.on_faces
+    (front_kept t.heavy c.args.face new.first new.heavy t.joined t.begins.firsts c.requires.six t.layered.six t.layered.on_faces (face_in a).layout.layered.on_faces
     c.in_ok-new.ensures.before)
 
 pub put-requires-clause-back : goal.put-requires-clause-back
@@ -99,7 +96,7 @@ put-requires-clause-back c =
     let is = c.shifted_by.ensures in
     same_back t.heavy (spans_of t.parts.items) c.args.face put.face put.end _ new.heavy put.heavy (is.face ∙ c.in_ok-new.ensures.face) (end_in a)
     is.heavy
-    (back_kept t.heavy c.args.face new.end new.heavy t.joined t.begins.value.firsts c.requires.six t.layered.six t.layered.on_faces (face_in a).layout.layered.on_faces
+    (back_kept t.heavy c.args.face new.end new.heavy t.joined t.begins.firsts c.requires.six t.layered.six t.layered.on_faces (face_in a).layout.layered.on_faces
     c.in_ok-new.ensures.new_face.within c.in_ok-new.ensures.behind)
 
 pub returns-clause-pairs : goal.returns-clause-pairs

@@ -42,7 +42,7 @@ made_in c =
     let with : IsFaceWith before.face hs (spans_of before.parts.now) (heavy_places_of before.parts.now) 0 0 [] [] (set before.heavy.now chunk.number chunk.held) =
     search rules in
     table_within change face before.face hs (spans_of before.parts.now) (heavy_places_of before.parts.now) (set (chunks_on t.heavy face) chunk.number chunk.held)
-    (set before.heavy.now chunk.number chunk.held) t.joined t.begins.value.firsts t.layered c.all_are_chunks.ensures c.requires.six c.requires.only c.requires.rises
+    (set before.heavy.now chunk.number chunk.held) t.joined t.begins.firsts t.layered c.all_are_chunks.ensures c.requires.six c.requires.only c.requires.rises
     c.requires.within_limit is.face is.parts is.heavy_places (ap (λ cs. set cs chunk.number chunk.held) is.heavy)
     (changed_there face old _ change es t.rises is.pairs entries) with
 

@@ -2,7 +2,6 @@
 use Rattle.std.proofs.Common.{◌≡◌, List, [], sym, ◌∙◌, ap, ap₂, arith, subst}
 use Rattle.s2ix_bag_pairs.specs.Collection.{Collection}
 use Rattle.s2ix_table_spans.specs.SpanTable.{SpanRanges}
-use Rattle.s2ix_table_faced.specs.declared.part_begins.PartBegins.{PartBegins}
 use Rattle.s2ix_table_parts.specs.FaceSpans.{heavy_places_of, spans_of}
 use Rattle.s2ix_table_parts.specs.Neighbours.{held_in}
 use Rattle.s2ix_table_faced.specs.Layout.{heavy_in}
@@ -25,10 +24,10 @@ pub invariant_of-result : goal.invariant_of-result
 invariant_of-result c =
     let t = c.args.self.now in
     let parts = parts_are (goal.at-invariant_of-result c).In_ok-parts in
-    let same = same_lists (ap spans_of parts) (ap heavy_places_of parts) (ap (λ (b : PartBegins). b.starts.items) c.in_ok-begins.ensures.cases)
+    let same = same_lists (ap spans_of parts) (ap heavy_places_of parts) c.in_ok-begins.ensures.starts
     (c.in_ok-offsets.ensures ∙ c.deref-2.ensures.value) (sound_of t) in
     let is = subst (λ (heavy : List (List Collection)). IsSound (spans_of c.in_ok-parts.parts.items) (heavy_places_of c.in_ok-parts.parts.items)
-    c.in_ok-begins.begins.value.starts.items c.in_ok-offsets.offsets.items heavy t.count) (sym (heavy_are (goal.at-invariant_of-result c).In_ok-heavy)) same in
+    c.in_ok-begins.begins.starts.items c.in_ok-offsets.offsets.items heavy t.count) (sym (heavy_are (goal.at-invariant_of-result c).In_ok-heavy)) same in
     record { joined = is.joined; layered = is.layered; rises = is.rises; table = is.table; bordered = is.bordered; once = is.once }
 
 pub returns : goal.returns

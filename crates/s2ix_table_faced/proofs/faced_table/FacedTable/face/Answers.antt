@@ -17,13 +17,13 @@ returns-clause-layered c =
     let at = c.from-at.ensures in
     let six = c.requires in
     let many = t.layered.six in
-    let own = face_of_table face t.joined t.begins.value.firsts t.layered c.all_are_chunks.ensures six in
-    let parts = c.parts_on.ensures.slice ∙ ap (parts_of_face (spans_of t.parts.items) t.begins.value.faces) at in
-    let heavy_places = c.parts_on.ensures.heavy_places ∙ ap (λ (n : ℕ). of_face (heavy_places_of t.parts.items) t.begins.value.faces n) at in
+    let own = face_of_table face t.joined t.begins.firsts t.layered c.all_are_chunks.ensures six in
+    let parts = c.parts_on.ensures.slice ∙ ap (parts_of_face (spans_of t.parts.items) t.begins.faces) at in
+    let heavy_places = c.parts_on.ensures.heavy_places ∙ ap (λ (n : ℕ). of_face (heavy_places_of t.parts.items) t.begins.faces n) at in
     let heavy = get_or_default t.heavy c.from-at.result c.index-self-at.result [] (omega arith) ∙ ap (chunks_on t.heavy) at in
     subst (λ cs. IsFaceLayered face cs (spans_of c.parts_on.result.now) (heavy_places_of c.parts_on.result.now)) (sym heavy)
     (subst (λ ts. IsFaceLayered face (chunks_on t.heavy face) ts (heavy_places_of c.parts_on.result.now)) (sym parts)
-    (subst (λ os. IsFaceLayered face (chunks_on t.heavy face) (parts_of_face (spans_of t.parts.items) t.begins.value.faces face) os) (sym heavy_places) own.layered))
+    (subst (λ os. IsFaceLayered face (chunks_on t.heavy face) (parts_of_face (spans_of t.parts.items) t.begins.faces face) os) (sym heavy_places) own.layered))
 
 pub returns-clause-pairs : goal.returns-clause-pairs
 returns-clause-pairs c =
@@ -32,8 +32,8 @@ returns-clause-pairs c =
     let at = c.from-at.ensures in
     let six = c.requires in
     let many = t.layered.six in
-    let own = face_of_table face t.joined t.begins.value.firsts t.layered c.all_are_chunks.ensures six in
-    let parts = c.parts_on.ensures.slice ∙ ap (parts_of_face (spans_of t.parts.items) t.begins.value.faces) at in
+    let own = face_of_table face t.joined t.begins.firsts t.layered c.all_are_chunks.ensures six in
+    let parts = c.parts_on.ensures.slice ∙ ap (parts_of_face (spans_of t.parts.items) t.begins.faces) at in
     let heavy = get_or_default t.heavy c.from-at.result c.index-self-at.result [] (omega arith) ∙ ap (chunks_on t.heavy) at in
     ap (λ ts. joined_layers (held_in ts) (all_of (slice_index_or t.heavy c.from-at.result c.index-self-at.result))) parts
-    ∙ ap (λ cs. joined_layers (held_in (parts_of_face (spans_of t.parts.items) t.begins.value.faces face)) (all_of cs)) heavy ∙ own.pairs
+    ∙ ap (λ cs. joined_layers (held_in (parts_of_face (spans_of t.parts.items) t.begins.faces face)) (all_of cs)) heavy ∙ own.pairs

@@ -79,5 +79,5 @@ returns-in-None-clause-new_face c =
     pairs one in
     let three = subst (λ ts. IfOk r (λ new. IsFaceWith face (held_on face (changed old change)) ts (heavy_places_of before.parts.now) new.first new.end (spans_of new.parts.items) (heavy_places_of new.parts.items) new.heavy))
     is.parts two in
-    subst (λ os. IfOk r (λ new. IsFaceWith face (held_on face (changed old change)) (parts_of_face (spans_of t.parts.items) t.begins.value.faces face) os new.first new.end (spans_of new.parts.items) (heavy_places_of new.parts.items) new.heavy))
+    subst (λ os. IfOk r (λ new. IsFaceWith face (held_on face (changed old change)) (parts_of_face (spans_of t.parts.items) t.begins.faces face) os new.first new.end (spans_of new.parts.items) (heavy_places_of new.parts.items) new.heavy))
     is.heavy_places three

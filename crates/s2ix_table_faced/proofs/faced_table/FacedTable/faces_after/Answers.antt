@@ -25,8 +25,8 @@ loop-face-preserved c =
     let is = c.in_ok-new.ensures in
     let before = c.face-before.ensures in
     let r = c.in_ok-push.ensures in
-    let own = parts_of_face (spans_of t.parts.items) t.begins.value.faces face in
-    let own_heavy_places = of_face (heavy_places_of t.parts.items) t.begins.value.faces face in
+    let own = parts_of_face (spans_of t.parts.items) t.begins.faces face in
+    let own_heavy_places = of_face (heavy_places_of t.parts.items) t.begins.faces face in
     let parts = pushed_spans all.parts.items now.parts.items new.parts.items c.face-before.result.parts.now new.first new.end r.parts ∙ ap (λ ts. spans_of all.parts.items ++ with_parts ts new.first new.end made) before.parts in
     let heavy_places = pushed_heavy_places all.parts.items now.parts.items new.parts.items c.face-before.result.parts.now new.first new.end r.parts
     ∙ ap (λ os. heavy_places_of all.parts.items ++ (take new.first os ++ (heavy_places_of new.parts.items ++ drop new.end os))) before.heavy_places in

@@ -1,7 +1,6 @@
 use Rattle.std.proofs.Common.{ℕ, ◌<◌, List, length, slice_index_or, sym, ◌∙◌, ap, arith, subst, AllPairs, Contains}
 use Rattle.std.proofs.lemmas.List.{take_at}
 use Rattle.s2ix_table_walk.specs.Table.{leaf_end}
-use Rattle.s2ix_table_faced.specs.declared.part_begins.PartBegins.{PartBegins}
 use Rattle.s2ix_table_parts.specs.FaceSpans.{face_begin, spans_of, starts_of}
 use Rattle.s2ix_table_faced.specs.Joined.{joined_ranges}
 use Rattle.s2ix_table_faced.specs.Layout.{covered, heavy_in}
@@ -37,8 +36,7 @@ new-requires-clause-first c =
 pub invariant_of-result : goal.invariant_of-result
 invariant_of-result c =
     let heavy = heavy_in c.args.heavy in
-    let starts = ap (λ (b : PartBegins). b.starts.items) c.in_ok-begins.ensures.ok ∙ c.in_ok-new.ensures
-    ∙ c.in_ok-starts.ensures ∙ ap (λ ts. starts_of (spans_of ts)) c.deref.ensures.value in
+    let starts = c.in_ok-begins.ensures ∙ c.in_ok-starts.ensures ∙ ap (λ ts. starts_of (spans_of ts)) c.deref.ensures.value in
     let here = ap (λ ts. covered heavy (spans_of ts)) c.deref-2.ensures.value in
     let own = c.in_ok-offsets.offsets.ok.0 in
     let many = c.in_ok-offsets.ensures in

@@ -1,6 +1,5 @@
 -- The new parts are put into their places in each list, and where parts begin then is kept.
 use Rattle.std.proofs.Common.{◌≡◌, ℕ, ◌+◌, List, Option, length, take, set, sym, ◌∙◌, ap, ap₂, arith, subst}
-use Rattle.std.specs.Arc.{arc_value}
 use Rattle.std.proofs.lemmas.List.{take_at}
 use Rattle.s2ix_bag_pairs.specs.Collection.{Collection}
 use Rattle.s2ix_table_spans.specs.SpanTable.{SpanRanges}
@@ -161,7 +160,7 @@ invariant_of-self c =
     c.in_ok-make_room.ensures.parts c.put_between.ensures in
     let parts = with_parts spans new.first new.end (spans_of new.parts.items) in
     let same = ap (λ (b : PartBegins). b.starts.items) c.in_ok-make_room.ensures.stay in
-    let starts = begins_put arc_value c.in_ok-begins.begins c.make_room.new.self.begins.value c.put_begins.new.begins.value (starts_of parts)
+    let starts = begins_put c.in_ok-begins.begins c.make_room.new.self.begins c.put_begins.new.begins (starts_of parts)
     (λ none. c.in_ok-begins.ensures.stay none ∙ sym same) c.in_ok-begins.ensures.made c.put_begins.ensures in
     let layout = subst (λ (ts : List SpanRanges). IsLayout ts c.set_face.new.heavy (heavy_places_of c.put_between.new.list.items)) (sym is)
     (subst (λ (hs : List (List Collection)). IsLayout parts hs (heavy_places_of c.put_between.new.list.items)) (sym heavy_is)

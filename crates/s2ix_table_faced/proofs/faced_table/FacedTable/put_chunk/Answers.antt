@@ -11,7 +11,7 @@ pub invariant_of-self : goal.invariant_of-self
 invariant_of-self c =
     let t = c.args.self.now in
     let Sound : List (List Collection) → Type 0 =
-    λ hs. IsSound (spans_of t.parts.items) (heavy_places_of t.parts.items) t.begins.value.starts.items t.offsets.items hs t.count in
+    λ hs. IsSound (spans_of t.parts.items) (heavy_places_of t.parts.items) t.begins.starts.items t.offsets.items hs t.count in
     let put = set t.heavy c.args.face (set (chunks_on t.heavy c.args.face) c.args.chunk.number c.args.chunk.held) in
     let sound = put_or_kept c.put_chunk_on.result Sound c.put_chunk_on.new.heavy t.heavy put c.put_chunk_on.ensures.put c.put_chunk_on.ensures.stay
     (still_sound t.joined t.layered c.all_are_chunks.ensures c.requires.layout)

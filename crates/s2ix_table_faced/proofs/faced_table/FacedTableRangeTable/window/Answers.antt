@@ -3,7 +3,6 @@ use Rattle.s2ix_table_walk.specs.LeafWindows.{HaveLeaves}
 use Rattle.s2ix_table_spans.specs.SpanTable.{SpanRanges}
 use Rattle.s2ix_table_spans.specs.Starts.{IsAmong}
 use Rattle.s2ix_table_faced.specs.declared.offset.Offset.{Offset}
-use Rattle.s2ix_table_faced.specs.declared.part_begins.PartBegins.{PartBegins}
 use Rattle.s2ix_table_parts.specs.FaceSpans.{spans_of, table_of}
 use Rattle.s2ix_table_faced.specs.Layout.{ranges_of}
 use Rattle.s2ix_table_faced.proofs.FirstParts.{leaf_before_end, length_starts}
@@ -14,10 +13,8 @@ use Rattle.s2ix_table_faced.proofs.faced_table.FacedTableRangeTable.window.Goals
 
 -- the parts that have the leaf among them
 parts_are : (c : After-parts_with-parts)
-    → IsAmong c.args.self.now.begins.value.starts.items c.args.leaf c.parts_with-parts.result.first c.parts_with-parts.result.size
-parts_are c =
-    subst (λ (b : PartBegins). IsAmong b.starts.items c.args.leaf c.parts_with-parts.result.first c.parts_with-parts.result.size) c.deref.ensures
-    c.parts_with-parts.ensures
+    → IsAmong c.args.self.now.begins.starts.items c.args.leaf c.parts_with-parts.result.first c.parts_with-parts.result.size
+parts_are c = c.parts_with-parts.ensures
 
 -- the last one of these is a part
 listed : (c : After-parts_with-parts)
@@ -51,8 +48,7 @@ ranges_are : (c : After-range_count)
 ranges_are c =
     let t = c.args.self.now in
     let ranges = ranges_of t.parts.items t.heavy in
-    let parts = subst (λ (b : PartBegins). IsAmong b.starts.items c.args.leaf c.parts_with-parts.result.first c.parts_with-parts.result.size)
-    c.deref.ensures c.parts_with-parts.ensures in
+    let parts = c.parts_with-parts.ensures in
     let some = parts.some in
     let within = parts.within in
     let many = length_starts t.joined in
