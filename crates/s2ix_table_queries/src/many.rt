@@ -9,7 +9,7 @@ ghost use Rattle.s2ix_table_queries.specs.ManyLeaves.{AreAnswered, IsNoLeaf, Lac
 use crate::bookmark::BATCH;
 use crate::each::{Done, Each, EachStop, answer_from, at_each};
 use crate::leaf::leaf_of;
-use crate::leaf_sorter::{CHUNK, LeafSorter, mostly_rise};
+use crate::leaf_sorter::{LeafSorter, MOST_SORTED, mostly_rise};
 use crate::of_held::OfHeld;
 use crate::table::RangeTable;
 use s2id_core::OutOfMemory;
@@ -21,8 +21,14 @@ const MANY: usize = 4_096;
 // In a table of fewer ranges the next leaf is quickly found wherever it lies.
 const MANY_RANGES: usize = 1_024;
 
-// For so many items a leaf there is room while leaves are sorted. If more pairs lie over each, they are answered as they come.
-const ITEMS: usize = 4;
+// The smallest chunk of leaves that is sorted, if there are as many: its buffers stay in a processor's own cache. A large table has a larger
+// one, with a leaf for so many ranges, so that several leaves lie in one part.
+const LEAST_CHUNK: usize = 8_192;
+
+const RANGES_TO_LEAF: usize = 32;
+
+// If more pairs than this lie over each leaf, leaves are answered as they come: most of the time is that of copying the pairs.
+const MOST_ITEMS: usize = 8;
 
 // Buffers for a chunk of leaves: the sorted leaves, and what `at_each` puts for them.
 #[derive(Drop)]
@@ -33,11 +39,18 @@ struct Buffers<R> {
 }
 
 impl<R: OfHeld> Buffers<R> {
-    // Buffers for so many leaves; `item` fills them. `OutOfMemory` if a growth is refused.
-    fn with_room(alloc: Global, count: usize, item: R) -> Result<Buffers<R>, OutOfMemory> {
+    // Buffers for so many leaves, with twice as many items for each as those that are done have, and four more; `item` fills them.
+    // `OutOfMemory` if a growth is refused.
+    fn for_leaves(
+        alloc: Global,
+        count: usize,
+        done: Done,
+        item: R,
+    ) -> Result<Buffers<R>, OutOfMemory> {
         let sorter = LeafSorter::with_room(alloc, count)?;
         let ends = Vec::from_elem(alloc, 0, count)?;
-        let items = Vec::from_elem(alloc, item, count.saturating_mul(ITEMS))?;
+        let room = 2 * (done.pairs / done.leaves.max(1)).min(MOST_ITEMS) + 4;
+        let items = Vec::from_elem(alloc, item, count.saturating_mul(room))?;
         Ok(Buffers {
             sorter,
             ends,
@@ -161,18 +174,18 @@ fn leading_leaves(numbers: &[u64]) -> usize
 
 // How many leaves are sorted next: those that are left, up to the first number that is no leaf's, but at most a chunk, and at most as many as
 // there is room for if as many pairs lie over each as over those that are done. 0 if these are too many to a leaf.
-fn next_count<R>(leaves: &[u64], done: Done, ends: &[usize], out: &[R]) -> usize
+fn next_count<R>(leaves: &[u64], chunk: usize, done: Done, ends: &[usize], out: &[R]) -> usize
     requires { done.leaves ≤ length leaves.now }
     ensures { result ≤ length leaves.now - done.leaves }
 {
-    if done.pairs > done.leaves.saturating_mul(ITEMS) {
+    if done.pairs > done.leaves.saturating_mul(MOST_ITEMS) {
         return 0;
     }
     let ends_left = ends.len().saturating_sub(done.leaves);
     let room_left = out.len().saturating_sub(done.pairs);
     let fitting = room_left.saturating_mul(done.leaves) / done.pairs.max(1);
     let most = (leaves.len() - done.leaves)
-        .min(CHUNK)
+        .min(chunk)
         .min(ends_left)
         .min(fitting);
     leading_leaves(&leaves[done.leaves..done.leaves + most])
@@ -252,12 +265,15 @@ fn answer_in_order<T: RangeTable, R: OfHeld>(
     if leaves.len() < MANY || table.range_count() < MANY_RANGES {
         return Done::NONE;
     }
+    let chunk = (table.range_count() / RANGES_TO_LEAF)
+        .max(LEAST_CHUNK)
+        .min(MOST_SORTED);
     let mut done = answer_sample(table, leaves, ends, out);
-    let mut count = next_count(leaves, done, ends, out);
+    let mut count = next_count(leaves, chunk, done, ends, out);
     if count < MANY || mostly_rise(&leaves[done.leaves..done.leaves + count]) || out.is_empty() {
         return done;
     }
-    let Ok(mut buffers) = Buffers::with_room(alloc, count, out[0]) else {
+    let Ok(mut buffers) = Buffers::for_leaves(alloc, count, done, out[0]) else {
         return done;
     };
     while count >= MANY {
@@ -266,16 +282,17 @@ fn answer_in_order<T: RangeTable, R: OfHeld>(
             return next;
         }
         done = next;
-        count = next_count(leaves, done, ends, out);
+        count = next_count(leaves, chunk, done, ends, out);
     }
     done
 }
 
 /// Puts what lies over each of some leaves into `out`, as [`at_each`] does, and is quicker for thousands of leaves in no order over a table
 /// that isn't small: it sorts them first. It doesn't if there are fewer than 4,096 leaves, or fewer than 1,024 ranges, or if the first leaves
-/// mostly rise, or if more than 4 pairs lie over each on average. It sorts at most 32,768 leaves at once, and no more than `out` seems to have
-/// room for. For that it allocates 42 bytes a leaf if an item is a label; if this is refused, it sorts none. O(log n + k) for each leaf with k
-/// pairs over it, and as much for each that it has sorted and then doesn't answer, since there is no room.
+/// mostly rise, or if more than 8 pairs lie over each on average. It sorts 8,192 leaves at once, or up to 65,536 over a large table, but no
+/// more than `out` seems to have room for. For each of these it allocates 26 bytes, and room for 4 items and for twice as many as lie over
+/// the first leaves; if this is refused, it sorts none. O(log n + k) for each leaf with k pairs over it, and as much for each that it has
+/// sorted and then doesn't answer, since there is no room.
 pub fn at_many<T: RangeTable, R: OfHeld>(
     alloc: Global,
     table: &T,
