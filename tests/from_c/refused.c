@@ -545,7 +545,7 @@ static long growths_of(call *call, bool is_empty) {
 int main(void) {
     int refused = 0;
     for (size_t k = 0; k < MANY + 1; k++) rising[k] = leaf + 2 * k;
-    for (size_t k = 0; k < UNSORTED; k++) unsorted[k] = leaf + 2 * (k * 7919 % 100003);
+    for (size_t k = 0; k < UNSORTED; k++) unsorted[k] = leaf + 2 * (k * 61803 % 100003);
     expect("meet", 0, "pairs that are met want memory", growths_of(meets, false) == growths_of(meets, true));
     expect("meet_from", 0, "pairs that are met want memory", growths_of(meets_from, false) == growths_of(meets_from, true));
     for (size_t k = 0; k < sizeof calls / sizeof *calls; k++) {

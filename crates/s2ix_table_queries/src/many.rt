@@ -15,8 +15,10 @@ use crate::table::RangeTable;
 use s2id_core::OutOfMemory;
 use std::alloc::Global;
 
-// At least so many leaves are sorted. Fewer are quicker answered as they come.
+// At least so many leaves are sorted, a batch of them apart, which is answered before. Fewer are quicker answered as they come.
 const MANY: usize = 4_096;
+
+const LEAST_SORTED: usize = MANY - BATCH;
 
 // In a table of fewer ranges the next leaf is quickly found wherever it lies.
 const MANY_RANGES: usize = 1_024;
@@ -270,13 +272,16 @@ fn answer_in_order<T: RangeTable, R: OfHeld>(
         .min(MOST_SORTED);
     let mut done = answer_sample(table, leaves, ends, out);
     let mut count = next_count(leaves, chunk, done, ends, out);
-    if count < MANY || mostly_rise(&leaves[done.leaves..done.leaves + count]) || out.is_empty() {
+    if count < LEAST_SORTED
+        || mostly_rise(&leaves[done.leaves..done.leaves + count])
+        || out.is_empty()
+    {
         return done;
     }
     let Ok(mut buffers) = Buffers::for_leaves(alloc, count, done, out[0]) else {
         return done;
     };
-    while count >= MANY {
+    while count >= LEAST_SORTED {
         let next = answer_chunk(table, leaves, count, &mut buffers, done, ends, out);
         if next.leaves < done.leaves + count {
             return next;
