@@ -44,12 +44,12 @@ static const uint64_t wrong_cells[] = {0x0c00000000000000, 0x0400000000000000, 0
 static const uint64_t leaves[] = {0x0800000000000001, 0x3000000000000001, 0x0400000000000001};
 static const uint64_t targets[] = {0x0c00000000000000, 0x0400000000000000, 0x1000000000000000};
 static const size_t bounds[] = {0, 2, 2, 3};
-/* So many leaves, in no order, that they are put in order if there is memory for it. */
-enum { UNSORTED = 5000 };
+/* So many leaves in no order that they are sorted, over so many pairs. */
+enum { UNSORTED = 5000, SPREAD = 600 };
 static uint64_t unsorted[UNSORTED];
-static size_t unsorted_ends[UNSORTED];
+static size_t unsorted_ends[UNSORTED], ends_one_by_one[UNSORTED];
 static uint32_t unsorted_labels[2 * UNSORTED];
-static s2ix_row unsorted_rows[2 * UNSORTED];
+static s2ix_row unsorted_rows[2 * UNSORTED], rows_one_by_one[2 * UNSORTED], spread[SPREAD];
 
 /* What a call told: its number, and what it put. */
 typedef struct told {
@@ -251,18 +251,6 @@ CALL(ranges) {
 CALL(at) { return (void)other, s2ix_at(handle, leaf, ROWS, &told->number); }
 CALL(at_each) { return (void)other, s2ix_at_each(handle, leaves, 3, ends, 3, ROWS, &told->number); }
 CALL(labels_at_each) { return (void)other, s2ix_labels_at_each(handle, leaves, 3, ends, 3, LABELS, &told->number); }
-/* (what it tells of the labels is a sum in which each has its place) */
-CALL(labels_at_unsorted) {
-    const uint32_t status = s2ix_labels_at_each(handle, unsorted, UNSORTED, unsorted_ends, UNSORTED, unsorted_labels, 2 * UNSORTED, &told->number);
-    for (size_t k = 0; k < UNSORTED; k++) told->cells[0] = told->cells[0] * 31 + unsorted_ends[k];
-    for (size_t k = 0; k < unsorted_ends[UNSORTED - 1]; k++) told->cells[1] = told->cells[1] * 31 + unsorted_labels[k];
-    return (void)other, status;
-}
-CALL(at_unsorted) {
-    const uint32_t status = s2ix_at_each(handle, unsorted, UNSORTED, unsorted_ends, UNSORTED, unsorted_rows, 2 * UNSORTED, &told->number);
-    for (size_t k = 0; k < unsorted_ends[UNSORTED - 1]; k++) told->cells[0] = told->cells[0] * 31 + unsorted_rows[k].label;
-    return (void)other, status;
-}
 CALL(pairs) { return (void)other, s2ix_pairs(handle, 0, ROWS, &told->number); }
 CALL(change) { return (void)other, s2ix_change(handle, 1, ENTRIES, &told->number); }
 CALL(range) {
@@ -415,8 +403,6 @@ static const struct {
     {"meet_each of cells that follow one another", meets_each_following, false},
     {"meet of 1,024 leaves", meets_many, false},
     {"meet of 1,025 leaves", meets_more, true},
-    {"labels_at_each of 5,000 leaves", labels_at_unsorted, true},
-    {"at_each of 5,000 leaves", at_unsorted, true},
     {"ranges", ranges, false},
     {"at", at, false},
     {"at_each", at_each, false},
@@ -542,10 +528,57 @@ static long growths_of(call *call, bool is_empty) {
     return growths;
 }
 
+/* Asks for the first leaves in no order, by rows or by labels, with a growth refused. Returns how many growths were asked for. */
+static long ask_unsorted(s2ix_handle *handle, const char *name, size_t len, bool by_rows, long growth) {
+    size_t answered = 0;
+    uint32_t status;
+    memset(unsorted_ends, 0, sizeof unsorted_ends);
+    asked = 0;
+    refused_growth = growth;
+    if (by_rows) status = s2ix_at_each(handle, unsorted, len, unsorted_ends, len, unsorted_rows, 2 * UNSORTED, &answered);
+    else status = s2ix_labels_at_each(handle, unsorted, len, unsorted_ends, len, unsorted_labels, 2 * UNSORTED, &answered);
+    refused_growth = 0;
+    bool holds = status == S2IX_DONE && answered == len && memcmp(unsorted_ends, ends_one_by_one, len * sizeof *unsorted_ends) == 0;
+    for (size_t k = 0; holds && k < unsorted_ends[len - 1]; k++) {
+        if (by_rows) holds = memcmp(&unsorted_rows[k], &rows_one_by_one[k], sizeof *unsorted_rows) == 0;
+        else holds = unsorted_labels[k] == rows_one_by_one[k].label;
+    }
+    expect(name, growth, "leaves in no order get other answers than one by one", holds);
+    return asked;
+}
+
+/* Refuses each growth that thousands of leaves in no order ask for: they get the same answers. Fewer leaves ask for none, nor do rising ones. */
+static void refuse_unsorted(void) {
+    s2ix_handle handle = {0};
+    size_t number = 0, end = 0;
+    const uint64_t apart = (uint64_t)1 << 33;
+    for (size_t k = 0; k < SPREAD; k++) spread[k] = (s2ix_row){k * apart + apart / 2, (uint32_t)(k % 70), 1};
+    if (s2ix_open(&handle, 1000, 1000, 1000) != S2IX_DONE || s2ix_add_all(&handle, spread, SPREAD, &number) != S2IX_DONE) abort();
+    if (s2ix_add(&handle, face, 90, 1, &number) != S2IX_DONE) abort();
+    for (size_t k = 0; k < UNSORTED; k++) unsorted[k] = (k * 61803 % 100003) * (apart / 128) + 1;
+    for (size_t k = 0; k < UNSORTED; end += number, ends_one_by_one[k++] = end) {
+        if (s2ix_at(&handle, unsorted[k], rows_one_by_one + end, 2 * UNSORTED - end, &number) != S2IX_DONE) abort();
+    }
+    for (int by_rows = 0; by_rows < 2; by_rows++) {
+        const char *name = by_rows ? "at_each of 5,000 leaves" : "labels_at_each of 5,000 leaves";
+        const long growths = ask_unsorted(&handle, name, UNSORTED, by_rows, 0);
+        expect(name, 0, "the leaves are not sorted", growths == 5);
+        for (long growth = 1; growth <= growths; growth++) ask_unsorted(&handle, name, UNSORTED, by_rows, growth);
+        expect("4,096 leaves", 0, "the leaves are not sorted", ask_unsorted(&handle, name, 4096, by_rows, 0) == 5);
+        expect("4,095 leaves", 0, "the call asks for a growth", ask_unsorted(&handle, name, 4095, by_rows, 0) == 0);
+    }
+    for (size_t k = 0; k < UNSORTED; k++) unsorted[k] = leaf + 2 * k;
+    asked = 0;
+    size_t answered = 0;
+    const uint32_t status = s2ix_labels_at_each(&handle, unsorted, UNSORTED, unsorted_ends, UNSORTED, unsorted_labels, 2 * UNSORTED, &answered);
+    expect("5,000 rising leaves", 0, "the call asks for a growth", status == S2IX_DONE && asked == 0);
+    s2ix_close(&handle);
+    expect("leaves in no order", 0, "something is not freed", blocks_held() == 0);
+}
+
 int main(void) {
     int refused = 0;
     for (size_t k = 0; k < MANY + 1; k++) rising[k] = leaf + 2 * k;
-    for (size_t k = 0; k < UNSORTED; k++) unsorted[k] = leaf + 2 * (k * 61803 % 100003);
     expect("meet", 0, "pairs that are met want memory", growths_of(meets, false) == growths_of(meets, true));
     expect("meet_from", 0, "pairs that are met want memory", growths_of(meets_from, false) == growths_of(meets_from, true));
     for (size_t k = 0; k < sizeof calls / sizeof *calls; k++) {
@@ -554,6 +587,7 @@ int main(void) {
         refused += each;
     }
     for (size_t k = 0; k < sizeof of_empty / sizeof *of_empty; k++) refused += refuse(of_empty[k].name, of_empty[k].make, of_empty[k].allocates, true);
+    refuse_unsorted();
     printf("growths refused from c: %d\n", refused);
     return faults > 0;
 }

@@ -113,6 +113,28 @@ void BesideSingleCalls(std::mt19937_64& chance, std::size_t pairs, std::size_t m
   }
 }
 
+// So many leaves in no order, under one pair or two each, that the library sorts them. The lists held nothing, or as much.
+void WithManyLeaves(std::mt19937_64& chance) {
+  s2ix::Index index;
+  std::vector<s2ix::Row> rows = {{kFace, 9000, 1}};
+  const std::uint64_t leaves_apart = std::uint64_t{1} << 33;
+  for (std::uint32_t k = 0; k < 3000; k++) rows.push_back({k * leaves_apart + leaves_apart / 2, k % 70, 1});
+  index.add_all(rows);
+  List leaves;
+  for (int k = 0; k < 30000; k++) leaves.push_back((chance() % (4000 * leaves_apart)) | 1);
+  s2ix::RowsOfEach found;
+  s2ix::LabelsOfEach labels;
+  for (int turn = 0; turn < 2; turn++) {
+    index.at_each(leaves, found);
+    index.labels_at_each(leaves, labels);
+    bool holds = found.size() == leaves.size() && labels.ends == found.ends && labels.labels.size() == found.rows.size();
+    for (std::size_t k = 0; holds && k < leaves.size(); k++) {
+      holds = AreRows(found[k], index.at(leaves[k])) && labels[k].size() == found[k].size() && *labels[k].begin() == found[k][0].label;
+    }
+    EXPECT(holds);
+  }
+}
+
 // Leaves and targets with more pairs than there is room for at first, among others with few or none. The lists held nothing, or much.
 void WithManyPairs() {
   s2ix::Index index;
@@ -291,8 +313,7 @@ int main() {
 #endif
     }
   }
-  // (so many leaves are put in order)
-  BesideSingleCalls(chance, 400, 9000);
+  WithManyLeaves(chance);
   WithManyPairs();
   InEachForm();
   Refused();
