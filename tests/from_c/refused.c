@@ -45,7 +45,7 @@ static const uint64_t leaves[] = {0x0800000000000001, 0x3000000000000001, 0x0400
 static const uint64_t targets[] = {0x0c00000000000000, 0x0400000000000000, 0x1000000000000000};
 static const size_t bounds[] = {0, 2, 2, 3};
 /* So many leaves in no order that they are sorted, over so many pairs. */
-enum { UNSORTED = 5000, SPREAD = 600 };
+enum { UNSORTED = 5000, SPREAD = 1200 };
 static uint64_t unsorted[UNSORTED];
 static size_t unsorted_ends[UNSORTED], ends_one_by_one[UNSORTED];
 static uint32_t unsorted_labels[2 * UNSORTED];
@@ -553,7 +553,7 @@ static void refuse_unsorted(void) {
     size_t number = 0, end = 0;
     const uint64_t apart = (uint64_t)1 << 33;
     for (size_t k = 0; k < SPREAD; k++) spread[k] = (s2ix_row){k * apart + apart / 2, (uint32_t)(k % 70), 1};
-    if (s2ix_open(&handle, 1000, 1000, 1000) != S2IX_DONE || s2ix_add_all(&handle, spread, SPREAD, &number) != S2IX_DONE) abort();
+    if (s2ix_open(&handle, 2000, 2000, 1000) != S2IX_DONE || s2ix_add_all(&handle, spread, SPREAD, &number) != S2IX_DONE) abort();
     if (s2ix_add(&handle, face, 90, 1, &number) != S2IX_DONE) abort();
     for (size_t k = 0; k < UNSORTED; k++) unsorted[k] = (k * 61803 % 100003) * (apart / 128) + 1;
     for (size_t k = 0; k < UNSORTED; end += number, ends_one_by_one[k++] = end) {
