@@ -260,15 +260,15 @@ uint32_t s2ix_at(s2ix_handle *handle, uint64_t leaf, s2ix_row *rows, size_t room
 
 /* The pairs over each of some leaves: those that s2ix_at puts for the first leaf, then those for the next, and so on. The leaves come in any
    order, repeated or not; it is quickest if they rise. If there are 4,096 leaves or more in no order, the index has 1,024 ranges or more, and
-   at most 8 pairs lie over a leaf on average, the call sorts leaves first, 8,192 to 65,536 at once. For that it allocates mostly 1 to 9 MiB, at
+   at most 8 pairs lie over a leaf on average, the call sorts leaves first, 8,192 to 65,536 at once. For that it allocates mostly 1 to 12 MiB, at
    most 22; if this is refused, it only takes longer. In all other cases it does not allocate. O(log n + k) for each leaf under k pairs. Of the
    leaves that it looks for, up to 63, or those that are sorted, may not be answered, since room ends. S2IX_CLOSED, S2IX_NO_CELL,
    S2IX_NO_ROOM. */
 uint32_t s2ix_at_each(s2ix_handle *handle, const uint64_t *leaves, size_t len, size_t *ends, size_t ends_room, s2ix_row *rows, size_t room,
                       size_t *answered);
 
-/* The label of each of these pairs: one comes again if a leaf lies in several of its cells. To sort leaves it allocates mostly less than
-   4 MiB, at most 7. The same statuses. */
+/* The label of each of these pairs: one comes again if a leaf lies in several of its cells. To sort leaves it allocates mostly less
+   than 5 MiB, at most 7. The same statuses. */
 uint32_t s2ix_labels_at_each(s2ix_handle *handle, const uint64_t *leaves, size_t len, size_t *ends, size_t ends_room, uint32_t *labels,
                              size_t room, size_t *answered);
 
